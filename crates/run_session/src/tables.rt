@@ -126,8 +126,8 @@ impl Machine for TableSession {
 
     ghost ephes_room = { λ s. s.room };
 
-    fn stands(&self) {
-        self.shows_legal();
+    fn shows_legal(&self) {
+        TableSession::shows_legal(self);
         self.labels_left();
     }
 

@@ -1,9 +1,7 @@
 -- What keeps the bindings: what is left of it where no block of its own is written, and what it holds.
-use Rattle.std.proofs.Common.{◌≡◌, ⊎_elim, ℕ, ℤ, Bool, false, true, IsTrue, List, [], ◌∷◌, Option, Some, None, refl, ap, sym, ◌∙◌, subst}
+use Rattle.std.proofs.Common.{◌≡◌, ⊎_elim, ℕ, Bool, false, IsTrue, List, [], ◌∷◌, Option, Some, None, refl, sym, ◌∙◌, subst}
 use Rattle.model_core.specs.declared.label.Label.{Label}
-use Rattle.model_core.specs.declared.entry.Entry.{Entry}
-use Rattle.model_core.specs.declared.graph.Value.{Value}
-use Rattle.model_core.specs.declared.graph.Value.TheVariants.{Int, Block, Nothing}
+use Rattle.model_core.specs.declared.graph.Value.TheVariants.{Int, Block}
 use Rattle.model_core.specs.declared.graph.Node.{Node}
 use Rattle.model_core.specs.declared.graph.Node.TheVariants.{Plain, Raw, Ephe}
 use Rattle.model_core.specs.Graph.{Graph, has_label, has_no_repeats, node_at, same_label}
@@ -11,7 +9,7 @@ use Rattle.model_core.proofs.Graphs.GraphLemmas.{same_label_refl}
 use Rattle.model_core.proofs.Reach.ReachLemmas.{or_left}
 use Rattle.model_core.specs.Entries.{keys_are_live}
 use Rattle.model_core.specs.Reach.{IsClosedUnder, edges_at}
-use Rattle.weak_laws.specs.Tables.Structures.{Apart, Binding, Cell, datum_at, keys_of, table_labels}
+use Rattle.weak_laws.specs.Tables.Structures.{Apart, keys_of}
 use Rattle.weak_laws.specs.Tables.Thinning.{Changes, Thin, ThinnedBy}
 use Rattle.weak_laws.proofs.OfTables.ChangeLemmas.{table_kept, bindings_thinned}
 use Rattle.weak_laws.proofs.OfTables.GrowLemmas.{new_to_table}

@@ -1,5 +1,5 @@
 -- The block of a key is none of a table's, of a weak array's or of a map's.
-use Rattle.std.proofs.Common.{◌≡◌, ⊎_elim, ℕ, zero, suc, ◌<◌, pos, false, true, IsTrue, List, [], ◌∷◌, ◌++◌, map, length, flat_map, get_or, Option, Some, refl, ap, sym, ◌∙◌, subst, arith}
+use Rattle.std.proofs.Common.{◌≡◌, ⊎_elim, ℕ, suc, ◌<◌, pos, false, true, IsTrue, List, [], ◌∷◌, ◌++◌, map, length, flat_map, get_or, Option, Some, refl, ap, sym, ◌∙◌, subst, arith}
 use Rattle.std.specs.List.{list_all}
 use Rattle.model_core.specs.declared.label.Label.{Label}
 use Rattle.model_core.specs.declared.graph.Value.{Value}

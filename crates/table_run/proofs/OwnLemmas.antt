@@ -1,5 +1,5 @@
 -- The lines whose call writes what keeps the bindings, or the weak array: a key is bound, its binding is taken, a slot is set.
-use Rattle.std.proofs.Common.{◌≡◌, ◌⊎◌, inl, inr, ⊎_elim, ℕ, zero, suc, ◌-◌, ◌<◌, ◌≤◌, ℤ, pos, Bool, false, true, cond, IsTrue, List, [], ◌∷◌, ◌++◌, map, length, flat_map, get_or, set, Option, Some, None, refl, ap, sym, ◌∙◌, subst, arith, append-nil}
+use Rattle.std.proofs.Common.{◌≡◌, ◌⊎◌, inl, inr, ⊎_elim, ℕ, zero, suc, ◌-◌, ◌<◌, ◌≤◌, ℤ, Bool, false, true, cond, IsTrue, List, [], ◌∷◌, map, length, get_or, set, Option, Some, None, refl, ap, sym, ◌∙◌, subst, arith, append-nil}
 use Rattle.std.specs.List.{list_all}
 use Rattle.model_core.specs.declared.label.Label.{Label}
 use Rattle.model_core.specs.declared.entry.Entry.{Entry}
@@ -14,11 +14,11 @@ use Rattle.model_core.specs.Domains.{IsWithinLimits}
 use Rattle.model_core.specs.History.{IsPrefix, Legal}
 use Rattle.model_laws.proofs.OfHistories.ApartLemmas.{IsKnownOut}
 use Rattle.model_core.proofs.Graphs.GraphLemmas.{same_label-true}
-use Rattle.model_core.proofs.Reach.ReachLemmas.{or_cases, or_left, or_right, and_left, and_right, has-append_cases}
+use Rattle.model_core.proofs.Reach.ReachLemmas.{or_cases, or_left, or_right, and_left, and_right}
 use Rattle.weak_laws.specs.Tables.Structures.{Binding, is_weak, keys_of, without, datum_at, IsWeakArray, slot_keys, Apart}
 use Rattle.weak_laws.specs.Tables.Thinning.{ThinnedBy, EmptiedBy, WasOutside, state_of}
 use Rattle.weak_laws.specs.Tables.Performing.{refusals, writings}
-use Rattle.weak_laws.specs.Tables.Stages.{Goes, graph_of, held_in}
+use Rattle.weak_laws.specs.Tables.Stages.{graph_of, held_in}
 use Rattle.weak_laws.proofs.OfTables.BindingLemmas.{thinned_more, thinned_keys}
 use Rattle.weak_laws.proofs.OfTables.ArrayLemmas.{emptied_more}
 use Rattle.weak_laws.proofs.OfTables.ChangeLemmas.{array_kept}

@@ -4,6 +4,7 @@ ghost use Rattle.model_core.specs.declared.reply.Reply.TheVariants as variant;
 ghost use Rattle.table_text.specs.declared.line.TableLine.TheVariants as line_of;
 ghost use Rattle.table_text.specs.Forms.{is_writable};
 ghost use Rattle.table_text.specs.Machine.Machine.{made_by, made_by_put};
+ghost use Rattle.weak_tables.specs.Frames.{Spends};
 ghost use Rattle.table_run.specs.Standing.{IsStanding};
 ghost use Rattle.table_run.specs.Running.{LineAnswers, rooms_of};
 
@@ -30,12 +31,10 @@ fn make_key<M: Machine, R: Wait>(
 ) -> LineReply
     requires register { (1 ≤ reg) × (reg ≤ 5) }
     requires label { 1 ≤ M.labels_left m.old.machine }
-    ensures sizes { M.sizes m.new.machine ≡ M.sizes m.old.machine }
-    ensures labels { M.labels_left m.old.machine ≤ M.labels_left m.new.machine + 1 }
-    ensures room { M.ephes_room m.old.machine ≤ M.ephes_room m.new.machine }
+    ensures spends { Spends M.sizes M.labels_left M.ephes_room 1 0 m.old.machine m.new.machine }
     ensures runs { LineAnswers version (M.sizes m.old.machine) (M.labels_left m.old.machine) (line_of.Key reg) (M.front m.old.machine) result (M.front m.new.machine) }
 {
-    m.machine.stands();
+    m.machine.shows_legal();
     let key = m.machine.perform(
         rt,
         Command::Alloc {
@@ -44,7 +43,7 @@ fn make_key<M: Machine, R: Wait>(
             fields: 1,
         },
     );
-    m.machine.stands();
+    m.machine.shows_legal();
     if is_full(&key) {
         return LineReply::Full;
     }
@@ -54,12 +53,10 @@ fn make_key<M: Machine, R: Wait>(
 // A register that holds nothing.
 fn forget<M: Machine, R: Wait>(version: Version, m: &mut OneDomain<M>, rt: &R, reg: u8) -> LineReply
     requires register { (1 ≤ reg) × (reg ≤ 5) }
-    ensures sizes { M.sizes m.new.machine ≡ M.sizes m.old.machine }
-    ensures labels { M.labels_left m.old.machine ≤ M.labels_left m.new.machine }
-    ensures room { M.ephes_room m.old.machine ≤ M.ephes_room m.new.machine }
+    ensures spends { Spends M.sizes M.labels_left M.ephes_room 0 0 m.old.machine m.new.machine }
     ensures runs { LineAnswers version (M.sizes m.old.machine) (M.labels_left m.old.machine) (line_of.Forget reg) (M.front m.old.machine) result (M.front m.new.machine) }
 {
-    m.machine.stands();
+    m.machine.shows_legal();
     let _nothing = m.machine.perform(rt, Command::Forget { dst: reg });
     LineReply::Done
 }
@@ -77,15 +74,13 @@ fn put<M: Machine, R: Wait>(
     requires labels { made_by_put version ≤ M.labels_left m.old.machine }
     requires room { 1 ≤ M.ephes_room m.old.machine }
     requires stands { IsStanding version (M.sizes m.old.machine) (M.front m.old.machine) }
-    ensures sizes { M.sizes m.new.machine ≡ M.sizes m.old.machine }
-    ensures labels { M.labels_left m.old.machine ≤ M.labels_left m.new.machine + made_by_put version }
-    ensures room { M.ephes_room m.old.machine ≤ M.ephes_room m.new.machine + 1 }
+    ensures spends { Spends M.sizes M.labels_left M.ephes_room (made_by_put version) 1 m.old.machine m.new.machine }
     ensures runs { LineAnswers version (M.sizes m.old.machine) (M.labels_left m.old.machine) (line_of.Put reg value) (M.front m.old.machine) result (M.front m.new.machine) }
 {
-    m.machine.stands();
+    m.machine.shows_legal();
     let _value = m.machine.perform(rt, Command::PutInt { dst: 0, value });
     let reply = keeper_put(version, m, rt, KEEPER, reg, 0);
-    m.machine.stands();
+    m.machine.shows_legal();
     said(&reply)
 }
 
@@ -93,12 +88,10 @@ fn put<M: Machine, R: Wait>(
 fn get<M: Machine, R: Wait>(version: Version, m: &mut OneDomain<M>, rt: &R, reg: u8) -> LineReply
     requires register { (1 ≤ reg) × (reg ≤ 5) }
     requires stands { IsStanding version (M.sizes m.old.machine) (M.front m.old.machine) }
-    ensures sizes { M.sizes m.new.machine ≡ M.sizes m.old.machine }
-    ensures labels { M.labels_left m.old.machine ≤ M.labels_left m.new.machine }
-    ensures room { M.ephes_room m.old.machine ≤ M.ephes_room m.new.machine }
+    ensures spends { Spends M.sizes M.labels_left M.ephes_room 0 0 m.old.machine m.new.machine }
     ensures runs { LineAnswers version (M.sizes m.old.machine) (M.labels_left m.old.machine) (line_of.Get reg) (M.front m.old.machine) result (M.front m.new.machine) }
 {
-    m.machine.stands();
+    m.machine.shows_legal();
     let reply = keeper_get(version, m, rt, 0, KEEPER, reg);
     said(&reply)
 }
@@ -107,12 +100,10 @@ fn get<M: Machine, R: Wait>(version: Version, m: &mut OneDomain<M>, rt: &R, reg:
 fn delete<M: Machine, R: Wait>(version: Version, m: &mut OneDomain<M>, rt: &R, reg: u8) -> LineReply
     requires register { (1 ≤ reg) × (reg ≤ 5) }
     requires stands { IsStanding version (M.sizes m.old.machine) (M.front m.old.machine) }
-    ensures sizes { M.sizes m.new.machine ≡ M.sizes m.old.machine }
-    ensures labels { M.labels_left m.old.machine ≤ M.labels_left m.new.machine }
-    ensures room { M.ephes_room m.old.machine ≤ M.ephes_room m.new.machine }
+    ensures spends { Spends M.sizes M.labels_left M.ephes_room 0 0 m.old.machine m.new.machine }
     ensures runs { LineAnswers version (M.sizes m.old.machine) (M.labels_left m.old.machine) (line_of.Del reg) (M.front m.old.machine) result (M.front m.new.machine) }
 {
-    m.machine.stands();
+    m.machine.shows_legal();
     let reply = keeper_take(version, m, rt, KEEPER, reg);
     said(&reply)
 }
@@ -128,12 +119,10 @@ fn set_slot<M: Machine, R: Wait>(
     requires slot { slot < 16 }
     requires register { (1 ≤ reg) × (reg ≤ 5) }
     requires stands { IsStanding version (M.sizes m.old.machine) (M.front m.old.machine) }
-    ensures sizes { M.sizes m.new.machine ≡ M.sizes m.old.machine }
-    ensures labels { M.labels_left m.old.machine ≤ M.labels_left m.new.machine }
-    ensures room { M.ephes_room m.old.machine ≤ M.ephes_room m.new.machine }
+    ensures spends { Spends M.sizes M.labels_left M.ephes_room 0 0 m.old.machine m.new.machine }
     ensures runs { LineAnswers version (M.sizes m.old.machine) (M.labels_left m.old.machine) (line_of.SetWeak slot reg) (M.front m.old.machine) result (M.front m.new.machine) }
 {
-    m.machine.stands();
+    m.machine.shows_legal();
     let reply = weak_set(&mut m.machine, rt, ARRAY, u16::from(slot), reg);
     said(&reply)
 }
@@ -149,12 +138,10 @@ fn get_slot<M: Machine, R: Wait>(
     requires register { (1 ≤ dst) × (dst ≤ 5) }
     requires slot { slot < 16 }
     requires stands { IsStanding version (M.sizes m.old.machine) (M.front m.old.machine) }
-    ensures sizes { M.sizes m.new.machine ≡ M.sizes m.old.machine }
-    ensures labels { M.labels_left m.old.machine ≤ M.labels_left m.new.machine }
-    ensures room { M.ephes_room m.old.machine ≤ M.ephes_room m.new.machine }
+    ensures spends { Spends M.sizes M.labels_left M.ephes_room 0 0 m.old.machine m.new.machine }
     ensures runs { LineAnswers version (M.sizes m.old.machine) (M.labels_left m.old.machine) (line_of.GetWeak dst slot) (M.front m.old.machine) result (M.front m.new.machine) }
 {
-    m.machine.stands();
+    m.machine.shows_legal();
     let reply = weak_get(&mut m.machine, rt, 0, ARRAY, u16::from(slot));
     let _copied = m.machine.perform(rt, Command::Copy { dst, src: 0 });
     said(&reply)
@@ -163,12 +150,10 @@ fn get_slot<M: Machine, R: Wait>(
 // How many bindings there are.
 fn count<M: Machine, R: Wait>(version: Version, m: &mut OneDomain<M>, rt: &R) -> LineReply
     requires stands { IsStanding version (M.sizes m.old.machine) (M.front m.old.machine) }
-    ensures sizes { M.sizes m.new.machine ≡ M.sizes m.old.machine }
-    ensures labels { M.labels_left m.old.machine ≤ M.labels_left m.new.machine }
-    ensures room { M.ephes_room m.old.machine ≤ M.ephes_room m.new.machine }
+    ensures spends { Spends M.sizes M.labels_left M.ephes_room 0 0 m.old.machine m.new.machine }
     ensures runs { LineAnswers version (M.sizes m.old.machine) (M.labels_left m.old.machine) line_of.Count (M.front m.old.machine) result (M.front m.new.machine) }
 {
-    m.machine.stands();
+    m.machine.shows_legal();
     LineReply::Counted(keeper_count(version, m, rt, KEEPER))
 }
 
@@ -176,16 +161,14 @@ fn count<M: Machine, R: Wait>(version: Version, m: &mut OneDomain<M>, rt: &R) ->
 // its key, and is swept.
 fn collect<M: Machine, R: Wait>(version: Version, m: &mut OneDomain<M>, rt: &R) -> LineReply
     requires stands { IsStanding version (M.sizes m.old.machine) (M.front m.old.machine) }
-    ensures sizes { M.sizes m.new.machine ≡ M.sizes m.old.machine }
-    ensures labels { M.labels_left m.old.machine ≤ M.labels_left m.new.machine }
-    ensures room { M.ephes_room m.old.machine ≤ M.ephes_room m.new.machine }
+    ensures spends { Spends M.sizes M.labels_left M.ephes_room 0 0 m.old.machine m.new.machine }
     ensures runs { LineAnswers version (M.sizes m.old.machine) (M.labels_left m.old.machine) line_of.FullMajor (M.front m.old.machine) result (M.front m.new.machine) }
 {
-    m.machine.stands();
+    m.machine.shows_legal();
     let _nothing = m.machine.perform(rt, Command::Forget { dst: 0 });
-    m.machine.stands();
+    m.machine.shows_legal();
     keeper_sweep(version, m, rt, KEEPER);
-    m.machine.stands();
+    m.machine.shows_legal();
     let _live = m.machine.perform(rt, Command::FullMajor);
     LineReply::Done
 }
@@ -201,9 +184,7 @@ pub(crate) fn run_line<M: Machine, R: Wait>(
     requires labels { made_by version line ≤ M.labels_left m.old.machine }
     requires room { rooms_of line ≤ M.ephes_room m.old.machine }
     requires stands { IsStanding version (M.sizes m.old.machine) (M.front m.old.machine) }
-    ensures sizes { M.sizes m.new.machine ≡ M.sizes m.old.machine }
-    ensures labels { M.labels_left m.old.machine ≤ M.labels_left m.new.machine + made_by version line }
-    ensures room { M.ephes_room m.old.machine ≤ M.ephes_room m.new.machine + rooms_of line }
+    ensures spends { Spends M.sizes M.labels_left M.ephes_room (made_by version line) (rooms_of line) m.old.machine m.new.machine }
     ensures runs { LineAnswers version (M.sizes m.old.machine) (M.labels_left m.old.machine) line (M.front m.old.machine) result (M.front m.new.machine) }
 {
     match line {

@@ -1,6 +1,7 @@
 // What keeps the bindings and the weak array, before the first line.
 ghost use Rattle.std.specs.Prelude.{◌≡◌, ◌+◌, ◌≤◌, []};
 ghost use Rattle.model_core.specs.Domains.{reserve};
+ghost use Rattle.weak_tables.specs.Frames.{Spends};
 ghost use Rattle.table_run.specs.Running.{Begins};
 
 use crate::keepers::OneDomain;
@@ -17,14 +18,12 @@ pub(crate) fn prepare<M: Machine, R: Wait>(version: Version, m: &mut OneDomain<M
     requires pools { reserve (M.sizes m.old.machine) + (M.sizes m.old.machine).classes + 32 ≤ (M.sizes m.old.machine).pools }
     requires labels { 18 ≤ M.labels_left m.old.machine }
     requires room { 16 ≤ M.ephes_room m.old.machine }
-    ensures sizes { M.sizes m.new.machine ≡ M.sizes m.old.machine }
-    ensures labels { M.labels_left m.old.machine ≤ M.labels_left m.new.machine + 18 }
-    ensures room { M.ephes_room m.old.machine ≤ M.ephes_room m.new.machine + 16 }
+    ensures spends { Spends M.sizes M.labels_left M.ephes_room 18 16 m.old.machine m.new.machine }
     ensures begins { Begins version (M.sizes m.old.machine) (M.front m.new.machine) }
 {
-    m.machine.stands();
+    m.machine.shows_legal();
     let _keeper = keeper_make(version, m, rt, 6);
-    m.machine.stands();
+    m.machine.shows_legal();
     let _array = weak_make(&mut m.machine, rt, 7, 16);
-    m.machine.stands();
+    m.machine.shows_legal();
 }

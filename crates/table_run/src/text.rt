@@ -36,7 +36,7 @@ pub fn run_text<M: Machine, R: Wait>(
 {
     let version = text.version();
     let mut replies = room;
-    m.machine.stands();
+    m.machine.shows_legal();
     prepare(version, m, rt);
     'lines: for i in 0..text.len() {
         replies.push_reserved(run_line(version, m, rt, text.line(i)));

@@ -1,14 +1,13 @@
 //! The calls on a cache.
-ghost use Rattle.std.specs.Prelude.{◌≡◌, ◌+◌, ◌<◌, ◌≤◌, ℕ, Some, cond};
+ghost use Rattle.std.specs.Prelude.{◌≡◌, ◌+◌, ◌<◌, ◌≤◌, ℕ, Some};
 ghost use Rattle.model_core.specs.declared.command.Command.TheVariants as command;
 ghost use Rattle.model_core.specs.declared.graph.Value.TheVariants.{Block};
-ghost use Rattle.model_core.specs.History.{IsPrefix};
-ghost use Rattle.weak_laws.specs.Tables.Performing.{full_of, is_spared};
+ghost use Rattle.weak_laws.specs.Tables.Performing.{is_spared};
 ghost use Rattle.weak_laws.specs.Maps.Calls.{PerformedBy};
-ghost use Rattle.weak_maps.specs.Beside.{Refuses, Writes, WritesAtMost, refusals_by, writings_by};
 ghost use Rattle.weak_cache.specs.Calls.{GetsAt, MakeReturns, PutsAt, TakesAt};
-ghost use Rattle.weak_cache.specs.Counts.{PutSpends};
+ghost use Rattle.weak_cache.specs.Counts.{PutCounts};
 ghost use Rattle.weak_cache.specs.Passes.{Begun, Cleared, CutsOut, Draws, DrawsBehind, FindsLeaf, MakesLeaf, MovesFirst, Passes, Tells};
+ghost use Rattle.weak_maps.specs.Frames.{Allocates, Leaves, Makes, Puts, Reads};
 
 use model_core::command::Command;
 use model_core::label::Label;
@@ -22,17 +21,10 @@ use weak_maps::replies::{is_block, is_empty, is_full, is_this};
 pub fn cache_make<M: Machine, R: Wait>(m: &mut M, rt: &R, dst: u8, size: u16) -> Reply
     requires few { (dst < 8) × (1 ≤ size) × (size ≤ 1022) }
     requires labels { 1 ≤ M.labels_left m.old }
-    ensures sizes { M.sizes m.new ≡ M.sizes m.old }
-    ensures domain { M.domain m.new ≡ M.domain m.old }
-    ensures heap { M.heap m.new ≡ M.heap m.old }
-    ensures grows { IsPrefix (M.front m.old) (M.front m.new) }
-    ensures labels { M.labels_left m.old + full_of result ≡ M.labels_left m.new + 1 }
-    ensures room { M.ephes_room m.old ≤ M.ephes_room m.new }
-    ensures refused { Refuses (M.domain m.old) (M.front m.old) (M.front m.new) (full_of result) }
-    ensures written { Writes (M.domain m.old) (M.front m.old) (M.front m.new) (is_spared dst) }
+    ensures allocates { Allocates M.sizes M.domain M.heap M.front M.labels_left M.ephes_room m.old m.new dst result }
     ensures made { MakeReturns (M.sizes m.old) (M.domain m.old) (M.front m.old) (M.front m.new) dst size result }
 {
-    m.stands();
+    m.shows_legal();
     perform(
         m,
         rt,
@@ -53,14 +45,7 @@ fn is_leaf_of<M: Machine, R: Wait>(
     label: &Label,
 ) -> bool
     requires few { slot < 16 }
-    ensures sizes { M.sizes m.new ≡ M.sizes m.old }
-    ensures domain { M.domain m.new ≡ M.domain m.old }
-    ensures heap { M.heap m.new ≡ M.heap m.old }
-    ensures grows { IsPrefix (M.front m.old) (M.front m.new) }
-    ensures labels { M.labels_left m.new ≡ M.labels_left m.old }
-    ensures room { M.ephes_room m.old ≤ M.ephes_room m.new }
-    ensures given { refusals_by (M.domain m.old) (M.front m.new) ≡ refusals_by (M.domain m.old) (M.front m.old) }
-    ensures written { writings_by (M.domain m.old) (M.front m.new) ≡ writings_by (M.domain m.old) (M.front m.old) }
+    ensures leaves { Leaves M.sizes M.domain M.heap M.front M.labels_left M.ephes_room m.old m.new }
     ensures told { Tells (M.sizes m.old) (M.domain m.old) (M.front m.old) (M.front m.new) slot shows.now label.now result }
 {
     if !is_block(shows) {
@@ -81,14 +66,7 @@ fn is_leaf_of<M: Machine, R: Wait>(
 // Reads a slot of the cache in register 13 into another from 9 on.
 fn read_slot<M: Machine, R: Wait>(m: &mut M, rt: &R, dst: u8, index: u16) -> Reply
     requires few { (9 ≤ dst) × (dst < 16) }
-    ensures sizes { M.sizes m.new ≡ M.sizes m.old }
-    ensures domain { M.domain m.new ≡ M.domain m.old }
-    ensures heap { M.heap m.new ≡ M.heap m.old }
-    ensures grows { IsPrefix (M.front m.old) (M.front m.new) }
-    ensures labels { M.labels_left m.new ≡ M.labels_left m.old }
-    ensures room { M.ephes_room m.old ≤ M.ephes_room m.new }
-    ensures given { refusals_by (M.domain m.old) (M.front m.new) ≡ refusals_by (M.domain m.old) (M.front m.old) }
-    ensures written { writings_by (M.domain m.old) (M.front m.new) ≡ writings_by (M.domain m.old) (M.front m.old) }
+    ensures leaves { Leaves M.sizes M.domain M.heap M.front M.labels_left M.ephes_room m.old m.new }
     ensures read { PerformedBy (M.sizes m.old) (M.domain m.old) (M.front m.old) (M.front m.new) (command.Load dst 13 index) result }
 {
     perform(
@@ -105,18 +83,11 @@ fn read_slot<M: Machine, R: Wait>(m: &mut M, rt: &R, dst: u8, index: u16) -> Rep
 // Looks for the leaf of the key in register 12 in the cache in register 13. Where there is one register 10 holds it, and its
 // slot is told.
 fn find<M: Machine, R: Wait>(m: &mut M, rt: &R, size: u16, label: &Label) -> Option<u16>
-    ensures sizes { M.sizes m.new ≡ M.sizes m.old }
-    ensures domain { M.domain m.new ≡ M.domain m.old }
-    ensures heap { M.heap m.new ≡ M.heap m.old }
-    ensures grows { IsPrefix (M.front m.old) (M.front m.new) }
-    ensures labels { M.labels_left m.new ≡ M.labels_left m.old }
-    ensures room { M.ephes_room m.old ≤ M.ephes_room m.new }
-    ensures given { refusals_by (M.domain m.old) (M.front m.new) ≡ refusals_by (M.domain m.old) (M.front m.old) }
-    ensures written { writings_by (M.domain m.old) (M.front m.new) ≡ writings_by (M.domain m.old) (M.front m.old) }
+    ensures leaves { Leaves M.sizes M.domain M.heap M.front M.labels_left M.ephes_room m.old m.new }
     ensures inner { (i : ℕ) → result ≡ Some i → i < size }
     ensures found { FindsLeaf (M.sizes m.old) (M.domain m.old) (M.front m.old) (M.front m.new) label.now size result }
 {
-    m.stands();
+    m.shows_legal();
     'slots: for index in 0..size {
         let shows = read_slot(m, rt, 10, index);
         if is_leaf_of(m, rt, 10, &shows, label) {
@@ -129,17 +100,10 @@ fn find<M: Machine, R: Wait>(m: &mut M, rt: &R, size: u16, label: &Label) -> Opt
 // Puts what register 10 holds into a slot of the cache in register 13, and takes what that held. Tells whether it wasn't the
 // leaf of the key in register 12.
 fn pass<M: Machine, R: Wait>(m: &mut M, rt: &R, label: &Label, index: u16) -> bool
-    ensures sizes { M.sizes m.new ≡ M.sizes m.old }
-    ensures domain { M.domain m.new ≡ M.domain m.old }
-    ensures heap { M.heap m.new ≡ M.heap m.old }
-    ensures grows { IsPrefix (M.front m.old) (M.front m.new) }
-    ensures labels { M.labels_left m.new ≡ M.labels_left m.old }
-    ensures room { M.ephes_room m.old ≤ M.ephes_room m.new }
-    ensures given { refusals_by (M.domain m.old) (M.front m.new) ≡ refusals_by (M.domain m.old) (M.front m.old) }
-    ensures written { writings_by (M.domain m.old) (M.front m.new) ≡ writings_by (M.domain m.old) (M.front m.old) }
+    ensures leaves { Leaves M.sizes M.domain M.heap M.front M.labels_left M.ephes_room m.old m.new }
     ensures passed { Passes (M.sizes m.old) (M.domain m.old) (M.front m.old) (M.front m.new) label.now index result }
 {
-    m.stands();
+    m.shows_legal();
     let shows = read_slot(m, rt, 9, index);
     let _done = perform(
         m,
@@ -160,17 +124,10 @@ fn pass<M: Machine, R: Wait>(m: &mut M, rt: &R, label: &Label, index: u16) -> bo
 // Puts the leaf in register 10 first in the cache in register 13. Those before that of its key, which register 12 holds, go
 // one slot on, and that one goes, or the last.
 fn put_first<M: Machine, R: Wait>(m: &mut M, rt: &R, size: u16, label: &Label)
-    ensures sizes { M.sizes m.new ≡ M.sizes m.old }
-    ensures domain { M.domain m.new ≡ M.domain m.old }
-    ensures heap { M.heap m.new ≡ M.heap m.old }
-    ensures grows { IsPrefix (M.front m.old) (M.front m.new) }
-    ensures labels { M.labels_left m.new ≡ M.labels_left m.old }
-    ensures room { M.ephes_room m.old ≤ M.ephes_room m.new }
-    ensures given { refusals_by (M.domain m.old) (M.front m.new) ≡ refusals_by (M.domain m.old) (M.front m.old) }
-    ensures written { writings_by (M.domain m.old) (M.front m.new) ≡ writings_by (M.domain m.old) (M.front m.old) }
+    ensures leaves { Leaves M.sizes M.domain M.heap M.front M.labels_left M.ephes_room m.old m.new }
     ensures moved { MovesFirst (M.sizes m.old) (M.domain m.old) (M.front m.old) (M.front m.new) label.now size }
 {
-    m.stands();
+    m.shows_legal();
     'slots: for index in 0..size {
         if !pass(m, rt, label, index) {
             return;
@@ -181,17 +138,10 @@ fn put_first<M: Machine, R: Wait>(m: &mut M, rt: &R, size: u16, label: &Label)
 // Puts what a slot of the cache in register 13 holds into the slot before it.
 fn draw<M: Machine, R: Wait>(m: &mut M, rt: &R, index: u16)
     requires few { index < 65535 }
-    ensures sizes { M.sizes m.new ≡ M.sizes m.old }
-    ensures domain { M.domain m.new ≡ M.domain m.old }
-    ensures heap { M.heap m.new ≡ M.heap m.old }
-    ensures grows { IsPrefix (M.front m.old) (M.front m.new) }
-    ensures labels { M.labels_left m.new ≡ M.labels_left m.old }
-    ensures room { M.ephes_room m.old ≤ M.ephes_room m.new }
-    ensures given { refusals_by (M.domain m.old) (M.front m.new) ≡ refusals_by (M.domain m.old) (M.front m.old) }
-    ensures written { writings_by (M.domain m.old) (M.front m.new) ≡ writings_by (M.domain m.old) (M.front m.old) }
+    ensures leaves { Leaves M.sizes M.domain M.heap M.front M.labels_left M.ephes_room m.old m.new }
     ensures drawn { Draws (M.sizes m.old) (M.domain m.old) (M.front m.old) (M.front m.new) index }
 {
-    m.stands();
+    m.shows_legal();
     let _shows = read_slot(m, rt, 10, index + 1);
     let _done = perform(
         m,
@@ -207,17 +157,10 @@ fn draw<M: Machine, R: Wait>(m: &mut M, rt: &R, index: u16)
 // Puts what each slot behind one of the cache in register 13 holds into the slot before it.
 fn draw_behind<M: Machine, R: Wait>(m: &mut M, rt: &R, size: u16, from: u16)
     requires inner { from < size }
-    ensures sizes { M.sizes m.new ≡ M.sizes m.old }
-    ensures domain { M.domain m.new ≡ M.domain m.old }
-    ensures heap { M.heap m.new ≡ M.heap m.old }
-    ensures grows { IsPrefix (M.front m.old) (M.front m.new) }
-    ensures labels { M.labels_left m.new ≡ M.labels_left m.old }
-    ensures room { M.ephes_room m.old ≤ M.ephes_room m.new }
-    ensures given { refusals_by (M.domain m.old) (M.front m.new) ≡ refusals_by (M.domain m.old) (M.front m.old) }
-    ensures written { writings_by (M.domain m.old) (M.front m.new) ≡ writings_by (M.domain m.old) (M.front m.old) }
+    ensures leaves { Leaves M.sizes M.domain M.heap M.front M.labels_left M.ephes_room m.old m.new }
     ensures drawn { DrawsBehind (M.sizes m.old) (M.domain m.old) (M.front m.old) (M.front m.new) from size }
 {
-    m.stands();
+    m.shows_legal();
     'behind: for passed in 0..size - 1 - from {
         draw(m, rt, from + passed);
     }
@@ -226,17 +169,10 @@ fn draw_behind<M: Machine, R: Wait>(m: &mut M, rt: &R, size: u16, from: u16)
 // Takes a slot out of the cache in register 13: those behind it go one forward, and the last holds 0.
 fn cut_out<M: Machine, R: Wait>(m: &mut M, rt: &R, size: u16, from: u16)
     requires inner { from < size }
-    ensures sizes { M.sizes m.new ≡ M.sizes m.old }
-    ensures domain { M.domain m.new ≡ M.domain m.old }
-    ensures heap { M.heap m.new ≡ M.heap m.old }
-    ensures grows { IsPrefix (M.front m.old) (M.front m.new) }
-    ensures labels { M.labels_left m.new ≡ M.labels_left m.old }
-    ensures room { M.ephes_room m.old ≤ M.ephes_room m.new }
-    ensures given { refusals_by (M.domain m.old) (M.front m.new) ≡ refusals_by (M.domain m.old) (M.front m.old) }
-    ensures written { writings_by (M.domain m.old) (M.front m.new) ≡ writings_by (M.domain m.old) (M.front m.old) }
+    ensures leaves { Leaves M.sizes M.domain M.heap M.front M.labels_left M.ephes_room m.old m.new }
     ensures cut { CutsOut (M.sizes m.old) (M.domain m.old) (M.front m.old) (M.front m.new) from size }
 {
-    m.stands();
+    m.shows_legal();
     draw_behind(m, rt, size, from);
     let _zero = perform(m, rt, Command::PutInt { dst: 10, value: 0 });
     let _done = perform(
@@ -253,14 +189,7 @@ fn cut_out<M: Machine, R: Wait>(m: &mut M, rt: &R, size: u16, from: u16)
 // Copies the key in a register into register 12, and the cache in another into register 13.
 fn begin<M: Machine, R: Wait>(m: &mut M, rt: &R, cache: u8, key: u8)
     requires few { (cache < 8) × (key < 8) }
-    ensures sizes { M.sizes m.new ≡ M.sizes m.old }
-    ensures domain { M.domain m.new ≡ M.domain m.old }
-    ensures heap { M.heap m.new ≡ M.heap m.old }
-    ensures grows { IsPrefix (M.front m.old) (M.front m.new) }
-    ensures labels { M.labels_left m.new ≡ M.labels_left m.old }
-    ensures room { M.ephes_room m.old ≤ M.ephes_room m.new }
-    ensures given { refusals_by (M.domain m.old) (M.front m.new) ≡ refusals_by (M.domain m.old) (M.front m.old) }
-    ensures written { writings_by (M.domain m.old) (M.front m.new) ≡ writings_by (M.domain m.old) (M.front m.old) }
+    ensures leaves { Leaves M.sizes M.domain M.heap M.front M.labels_left M.ephes_room m.old m.new }
     ensures begun { Begun (M.sizes m.old) (M.domain m.old) (M.front m.old) (M.front m.new) cache key }
 {
     let _key = perform(m, rt, Command::Copy { dst: 12, src: key });
@@ -276,14 +205,7 @@ fn begin<M: Machine, R: Wait>(m: &mut M, rt: &R, cache: u8, key: u8)
 
 // Empties the registers that the calls use between, that of the key last.
 fn clear<M: Machine, R: Wait>(m: &mut M, rt: &R)
-    ensures sizes { M.sizes m.new ≡ M.sizes m.old }
-    ensures domain { M.domain m.new ≡ M.domain m.old }
-    ensures heap { M.heap m.new ≡ M.heap m.old }
-    ensures grows { IsPrefix (M.front m.old) (M.front m.new) }
-    ensures labels { M.labels_left m.new ≡ M.labels_left m.old }
-    ensures room { M.ephes_room m.old ≤ M.ephes_room m.new }
-    ensures given { refusals_by (M.domain m.old) (M.front m.new) ≡ refusals_by (M.domain m.old) (M.front m.old) }
-    ensures written { writings_by (M.domain m.old) (M.front m.new) ≡ writings_by (M.domain m.old) (M.front m.old) }
+    ensures leaves { Leaves M.sizes M.domain M.heap M.front M.labels_left M.ephes_room m.old m.new }
     ensures cleared { Cleared (M.sizes m.old) (M.domain m.old) (M.front m.old) (M.front m.new) }
 {
     let _nine = perform(m, rt, Command::Forget { dst: 9 });
@@ -299,17 +221,11 @@ fn make_leaf<M: Machine, R: Wait>(m: &mut M, rt: &R, key: u8, item: u8) -> bool
     requires few { (key < 8) × (item < 8) }
     requires label { 1 ≤ M.labels_left m.old }
     requires room { 1 ≤ M.ephes_room m.old }
-    ensures sizes { M.sizes m.new ≡ M.sizes m.old }
-    ensures domain { M.domain m.new ≡ M.domain m.old }
-    ensures heap { M.heap m.new ≡ M.heap m.old }
-    ensures grows { IsPrefix (M.front m.old) (M.front m.new) }
-    ensures labels { M.labels_left m.old ≡ M.labels_left m.new + cond result 1 0 }
+    ensures makes { Makes M.sizes M.domain M.heap M.front M.labels_left m.old m.new result }
     ensures room { M.ephes_room m.old ≤ M.ephes_room m.new + 1 }
-    ensures refused { refusals_by (M.domain m.old) (M.front m.new) ≡ refusals_by (M.domain m.old) (M.front m.old) + cond result 0 1 }
-    ensures written { writings_by (M.domain m.old) (M.front m.new) ≡ writings_by (M.domain m.old) (M.front m.old) }
     ensures made { MakesLeaf (M.sizes m.old) (M.domain m.old) (M.front m.old) (M.front m.new) key item result }
 {
-    m.stands();
+    m.shows_legal();
     let made = perform(m, rt, Command::Ephe { dst: 10, keys: 1 });
     if is_full(&made) {
         return false;
@@ -341,17 +257,10 @@ pub fn cache_get<M: Machine, R: Wait>(
     key: u8,
 ) -> Reply
     requires few { (dst < 8) × (cache < 8) × (key < 8) }
-    ensures sizes { M.sizes m.new ≡ M.sizes m.old }
-    ensures domain { M.domain m.new ≡ M.domain m.old }
-    ensures heap { M.heap m.new ≡ M.heap m.old }
-    ensures grows { IsPrefix (M.front m.old) (M.front m.new) }
-    ensures labels { M.labels_left m.new ≡ M.labels_left m.old }
-    ensures room { M.ephes_room m.old ≤ M.ephes_room m.new }
-    ensures given { refusals_by (M.domain m.old) (M.front m.new) ≡ refusals_by (M.domain m.old) (M.front m.old) }
-    ensures written { WritesAtMost (M.domain m.old) (M.front m.old) (M.front m.new) (is_spared dst) }
+    ensures reads { Reads M.sizes M.domain M.heap M.front M.labels_left M.ephes_room m.old m.new (is_spared dst) }
     ensures answer { GetsAt (M.sizes m.old) (M.domain m.old) (M.front m.old) (M.front m.new) dst cache size key result }
 {
-    m.stands();
+    m.shows_legal();
     let Reply::Block(label) = m.show(key) else {
         return Reply::BadType;
     };
@@ -381,18 +290,11 @@ pub fn cache_take<M: Machine, R: Wait>(
     key: u8,
 ) -> Reply
     requires few { (dst < 8) × (cache < 8) × (key < 8) }
-    ensures sizes { M.sizes m.new ≡ M.sizes m.old }
-    ensures domain { M.domain m.new ≡ M.domain m.old }
-    ensures heap { M.heap m.new ≡ M.heap m.old }
-    ensures grows { IsPrefix (M.front m.old) (M.front m.new) }
-    ensures labels { M.labels_left m.new ≡ M.labels_left m.old }
-    ensures room { M.ephes_room m.old ≤ M.ephes_room m.new }
-    ensures given { refusals_by (M.domain m.old) (M.front m.new) ≡ refusals_by (M.domain m.old) (M.front m.old) }
-    ensures written { WritesAtMost (M.domain m.old) (M.front m.old) (M.front m.new) (is_spared dst) }
+    ensures reads { Reads M.sizes M.domain M.heap M.front M.labels_left M.ephes_room m.old m.new (is_spared dst) }
     ensures answer { TakesAt (M.sizes m.old) (M.domain m.old) (M.front m.old) (M.front m.new)
         dst cache size key result }
 {
-    m.stands();
+    m.shows_legal();
     let Reply::Block(label) = m.show(key) else {
         return Reply::BadType;
     };
@@ -425,18 +327,11 @@ pub fn cache_put<M: Machine, R: Wait>(
     requires few { (cache < 8) × (key < 8) × (item < 8) }
     requires labels { 1 ≤ M.labels_left m.old }
     requires room { 1 ≤ M.ephes_room m.old }
-    ensures sizes { M.sizes m.new ≡ M.sizes m.old }
-    ensures domain { M.domain m.new ≡ M.domain m.old }
-    ensures heap { M.heap m.new ≡ M.heap m.old }
-    ensures grows { IsPrefix (M.front m.old) (M.front m.new) }
-    ensures counts { PutSpends (M.domain m.old) (M.labels_left m.old) (M.labels_left m.new)
-        (M.front m.old) (M.front m.new) result }
-    ensures room { M.ephes_room m.old ≤ M.ephes_room m.new + 1 }
-    ensures written { writings_by (M.domain m.old) (M.front m.new) ≡ writings_by (M.domain m.old) (M.front m.old) }
+    ensures puts { Puts M.sizes M.domain M.heap M.front M.labels_left M.ephes_room m.old m.new PutCounts result }
     ensures answer { PutsAt (M.sizes m.old) (M.domain m.old) (M.front m.old) (M.front m.new)
         cache size key item result }
 {
-    m.stands();
+    m.shows_legal();
     let Reply::Block(label) = m.show(key) else {
         return Reply::BadType;
     };

@@ -16,7 +16,7 @@ use Rattle.weak_laws.specs.Maps.Calls.{PerformedBy}
 use Rattle.weak_laws.proofs.OfMaps.FrontLemmas.{prefix_same, prefix_trans}
 use Rattle.weak_laws.proofs.OfMaps.RespectLemmas.{respect_within}
 use Rattle.weak_maps.specs.Beside.{held_by}
-use Rattle.weak_maps.specs.Fields.{Stays}
+use Rattle.weak_maps.specs.Fields.{MapStays}
 use Rattle.weak_maps.specs.Puts.{Arrived, FindsField, GoesOn, KeepsLeaf, MakesRoom, Publishes, Putting, rest_of}
 use Rattle.weak_maps.specs.declared.putting.Try.{Try}
 use Rattle.weak_maps.specs.Settles.{AloneBy, IsDeep, SettlesAlone}
@@ -35,7 +35,7 @@ use Rattle.weak_maps.proofs.TryLemmas.{put_digit, quiet_later}
 pub deep_root : (z : Sizes) (h : List Entry) (root k : Label) → IsMap (graph_of z h) root → IsDeep z h root k 6
 deep_root z h root k map = record { p = []; rest = way_to z.domains k; way = refl; block = (root, map.own.0, refl, map.own.1); deep = omega arith }
 
-deep_on : (z : Sizes) (root k : Label) (now later : List Entry) (rooms : ℕ) → Stays z root now later → IsDeep z now root k rooms → IsDeep z later root k rooms
+deep_on : (z : Sizes) (root k : Label) (now later : List Entry) (rooms : ℕ) → MapStays z root now later → IsDeep z now root k rooms → IsDeep z later root k rooms
 deep_on z root k now later rooms stays x =
     let y = stays.block x.p (Block x.block.0) x.block.1 x.block.2 x.block.3 in
     record { p = x.p; rest = x.rest; way = x.way; block = (x.block.0, y.1.0, y.0, y.1.1); deep = x.deep }

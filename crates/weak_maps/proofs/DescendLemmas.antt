@@ -29,7 +29,7 @@ use Rattle.weak_maps.specs.Beside.{held_by}
 use Rattle.weak_maps.specs.Walks.{Looking, Descends, LeafTells, Meets, Met}
 use Rattle.weak_maps.proofs.BesideLemmas.{sixteen, set_here, set_other, same_held, since_old, until_new}
 use Rattle.weak_maps.proofs.StayLemmas.{prefix_same, leaf_middle, looking_from, looking_on, stays_middle}
-use Rattle.weak_maps.specs.Fields.{Stays}
+use Rattle.weak_maps.specs.Fields.{MapStays}
 
 -- a way goes on from where its first part leads
 pub at_append : (f : Walk) (p q : List ℕ) (v u : Value) → at f p v ≡ Some u → at f (p ++ q) v ≡ at f q u
@@ -113,7 +113,7 @@ module _ (z : Sizes) (limits : IsWithinLimits z) (root : Label) (d : ℕ) (first
     abbrev mid : List Entry
     mid = now ++ p.between
 
-    pub stay : Stays z root now mid
+    pub stay : MapStays z root now mid
     stay = stays_middle z root d first now new (Load dst src i) r p respects looking.grows looking.map
 
     abbrev pub Loaded : List ℕ → Type 0

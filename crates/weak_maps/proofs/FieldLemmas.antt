@@ -22,13 +22,13 @@ use Rattle.weak_laws.proofs.OfMaps.CallLemmas.{copy_step, get_key_step, get_key_
 use Rattle.weak_maps.specs.Commands.{IsBlock}
 use Rattle.weak_maps.specs.Beside.{held_by}
 use Rattle.weak_maps.specs.Walks.{LeafTells, Looking}
-use Rattle.weak_maps.specs.Fields.{AtField, FoundBy, FoundMine, FoundNone, KeepsWalked, Stays, Walked}
+use Rattle.weak_maps.specs.Fields.{AtField, FoundBy, FoundMine, FoundNone, KeepsWalked, MapStays, Walked}
 use Rattle.weak_maps.proofs.BesideLemmas.{sixteen, set_here, set_other, same_held}
 use Rattle.weak_maps.proofs.StayLemmas.{leaf_middle, looking_on, prefix_same, stays_middle, stays_same, stays_twice}
 use Rattle.weak_maps.proofs.DescendLemmas.{below_root, below_width, block_of, leaf_none, leaf_tells, loads_inner, none_bound, plain_node, shown_no_type, way_ends}
 use Rattle.weak_maps.proofs.GetLemmas.{grows_by}
 
-stays_here : (z : Sizes) (root : Label) (a : List Entry) → IsMap (graph_of z a) root → Stays z root a a
+stays_here : (z : Sizes) (root : Label) (a : List Entry) → IsMap (graph_of z a) root → MapStays z root a a
 stays_here z root a map = record { map = map; block = λ q u fields there plain. (there, (fields, plain)) }
 
 module _ (z : Sizes) (limits : IsWithinLimits z) (root : Label) (d : ℕ) (first : List Entry) (k : Label) where

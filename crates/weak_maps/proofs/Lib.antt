@@ -1,4 +1,5 @@
 pub mod CountLemmas
+pub mod FrameLemmas
 pub mod MachineLemmas
 pub mod BesideLemmas
 pub mod EntryLemmas

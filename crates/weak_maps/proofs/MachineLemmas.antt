@@ -28,6 +28,10 @@ at_machine z now d e old new c r sizes domain p = subst (λ (w : Sizes × ℕ). 
 pub counted_by : (f : ℕ → List Entry → ℕ) (d e n : ℕ) (old new : List Entry) → e ≡ d → f e new ≡ f e old + n → f d new ≡ f d old + n
 counted_by f d e n old new same is = subst (λ (m : ℕ). f m new ≡ f m old + n) same is
 
+-- and a count that a later call leaves
+pub same_count : (f : ℕ → List Entry → ℕ) (d d2 : ℕ) (mid new : List Entry) → d2 ≡ d → f d2 new ≡ f d2 mid → f d new ≡ f d mid
+same_count f d d2 mid new same told = subst (λ (x : ℕ). f x new ≡ f x mid) same told
+
 -- a walk that began at this front, and what it met
 pub descended_at : (z now : Sizes) (d e : ℕ) (old first new : List Entry) (map key : ℕ) (k : Label) (a b : Bool) → now ≡ z → e ≡ d → first ≡ old → b ≡ a → Descended now e first new map key k b → Descended z d old new map key k a
 descended_at z now d e old first new map key k a b sizes domain front is x =

@@ -3,6 +3,7 @@ pub mod PerformLemmas
 pub mod StretchLemmas
 pub mod CallLemmas
 pub mod MachineLemmas
+pub mod FrameLemmas
 pub mod MakeLemmas
 pub mod DeclineLemmas
 pub mod CountLemmas

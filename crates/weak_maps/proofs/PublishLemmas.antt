@@ -40,7 +40,7 @@ use Rattle.weak_laws.proofs.OfMaps.RespectLemmas.{graph_push}
 use Rattle.weak_laws.proofs.OfMaps.SetLemmas.{set_binds}
 use Rattle.weak_laws.proofs.OfMaps.WithinLemmas.{within_written}
 use Rattle.weak_maps.specs.Beside.{held_by}
-use Rattle.weak_maps.specs.Fields.{AtField, Stays}
+use Rattle.weak_maps.specs.Fields.{AtField, MapStays}
 use Rattle.weak_maps.specs.Puts.{BindsOnly, FieldBinds, IsLeafOf, OwnBlock, Published, PublishLost}
 use Rattle.weak_maps.proofs.BesideLemmas.{left_is, same_held, until_new}
 use Rattle.weak_maps.proofs.CountLemmas.{not_refused}
@@ -149,7 +149,7 @@ module _ (z : Sizes) (limits : IsWithinLimits z) (root : Label) (d : ℕ) (first
   abbrev g : Graph
   g = graph_of z mid
 
-  stay : Stays z root front mid
+  stay : MapStays z root front mid
   stay = stays_twice z root front now mid x.stays (stays_middle z root d now now new c r p respects (prefix_same now) map)
 
   moved : (at (inside g) x.p (Block root) ≡ Some (Block x.l)) × ((left : List Value) × (inside g (Block x.l) ≡ Some left))

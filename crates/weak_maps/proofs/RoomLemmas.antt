@@ -36,7 +36,7 @@ use Rattle.weak_laws.proofs.OfMaps.WalkLemmas.{set_same}
 use Rattle.weak_laws.specs.Maps.Within.{IsMadeBehind, OwnWithin}
 use Rattle.weak_laws.proofs.OfMaps.WithinLemmas.{within_deeper}
 use Rattle.weak_maps.specs.Beside.{held_by}
-use Rattle.weak_maps.specs.Fields.{AtField, Stays}
+use Rattle.weak_maps.specs.Fields.{AtField, MapStays}
 use Rattle.weak_maps.specs.Guards.{Guards}
 use Rattle.weak_maps.specs.Puts.{FieldBinds, GoesOn, IsBlockAt, OwnBlock, RoomMade, RoomRefused}
 use Rattle.weak_maps.proofs.BesideLemmas.{same_held, set_here, set_other, sixteen, until_new}
@@ -51,7 +51,7 @@ use Rattle.weak_maps.proofs.StayLemmas.{respects_within, stays_middle, stays_twi
 use Rattle.weak_maps.proofs.StillLemmas.{still_between, still_untouched}
 
 -- over a history whose entries respect a map its blocks stay
-pub stays_all : (z : Sizes) (root : Label) (old new : List Entry) → IsPrefix old new → AllRespect z root old new → IsMap (graph_of z old) root → Stays z root old new
+pub stays_all : (z : Sizes) (root : Label) (old new : List Entry) → IsPrefix old new → AllRespect z root old new → IsMap (graph_of z old) root → MapStays z root old new
 stays_all z root old new grows all map = record { map = map_after z root old new grows all map; block = λ q u fields there plain. place_after z root old new grows all map q u fields there plain }
 
 pub goes_all : (z : Sizes) (root : Label) (d : ℕ) (old new : List Entry) → OthersRespect z root d old new → GoesOn z root d old new → AllRespect z root old new
@@ -194,7 +194,7 @@ module _ (z : Sizes) (limits : IsWithinLimits z) (root : Label) (d : ℕ) (first
       all_then : AllRespect z root now n1
       all_then = goes_all z root d now n1 e01 stored.0
 
-      stay_then : Stays z root front n1
+      stay_then : MapStays z root front n1
       stay_then = stays_twice z root front now n1 x.stays (stays_all z root now n1 stored.0.grows all_then map)
 
       mid_map : IsMap g root
@@ -250,7 +250,7 @@ module _ (z : Sizes) (limits : IsWithinLimits z) (root : Label) (d : ℕ) (first
       abbrev GoesDown : Type 0
       GoesDown = at (inside (graph_of z now)) place (Block root) ≡ Some x.v → OthersLeave z root d now new → IsBlockAt z new root place
 
-      leaves : (on : Looks z root d n1 new × IsMap (graph_of z new) root × ((first : List Entry) → IsMadeBehind z d first b → OwnWithin z root d first n1 new)) → ((m : ℕ) → held_by z d new m ≡ held_by z d n1 m) → node_at (graph_of z new) l ≡ Some mine → (Stays z root front new → GoesDown) → RoomMade z d front now new root k l v place x.v
+      leaves : (on : Looks z root d n1 new × IsMap (graph_of z new) root × ((first : List Entry) → IsMadeBehind z d first b → OwnWithin z root d first n1 new)) → ((m : ℕ) → held_by z d new m ≡ held_by z d n1 m) → node_at (graph_of z new) l ≡ Some mine → (MapStays z root front new → GoesDown) → RoomMade z d front now new root k l v place x.v
       leaves on keeps is deeper =
           let whole = goes_by z root d now n1 new (Cas 8 i 9 11) r2 p2 stored.0 on.0 on.1 (on.2 now first_made.4) in
           let stays = stays_twice z root front now new x.stays (stays_all z root now new whole.grows (goes_all z root d now new respects whole) map) in record {
@@ -312,7 +312,7 @@ module _ (z : Sizes) (limits : IsWithinLimits z) (root : Label) (d : ℕ) (first
         )
 
       -- so the exchange is made, and the block stands there
-      module _ (won : graph_of z new ≡ h) (stays : Stays z root front new) where
+      module _ (won : graph_of z new ≡ h) (stays : MapStays z root front new) where
         goes_down : IsBlockAt z new root place
         goes_down =
             let above : inside (graph_of z new) (Block x.l) ≡ Some (set fields i (Block b)) = ap (λ (y : Graph). inside y (Block x.l)) won ∙ ap fields_of (node_at-with_node_same g x.l (Plain node.0 (set fields i (Block b))) (Plain node.0 fields) node.1) in

@@ -31,7 +31,7 @@ use Rattle.weak_laws.specs.Maps.Within.{IsMadeBehind, OwnWithin}
 use Rattle.weak_laws.proofs.OfMaps.MapLemmas.{map_stays, places_stay, plain_stays}
 use Rattle.weak_laws.proofs.OfMaps.WithinLemmas.{within_same}
 use Rattle.weak_maps.specs.Beside.{held_by}
-use Rattle.weak_maps.specs.Fields.{Stays}
+use Rattle.weak_maps.specs.Fields.{MapStays}
 use Rattle.weak_maps.specs.Walks.{LeafTells, Looking, OwnQuiet}
 use Rattle.weak_maps.proofs.BesideLemmas.{since_old, until_new}
 use Rattle.weak_maps.proofs.EntryLemmas.{own_entry}
@@ -42,17 +42,17 @@ prefix_same h = record { rest = []; appends = sym (append-nil h) }
 pub respects_within : (z : Sizes) (root : Label) (d : ℕ) (old new later earlier : List Entry) → IsPrefix old later → IsPrefix earlier new → OthersRespect z root d old new → OthersRespect z root d later earlier
 respects_within z root d old new later earlier after before respects front e since until other = respects front e (prefix_trans old later front after since) (prefix_trans (front ++ e ∷ []) earlier new until before) other
 
-pub others_stay : (z : Sizes) (root : Label) (d : ℕ) (now between : List Entry) → NoneOf d between → IsMap (graph_of z now) root → OthersRespect z root d now (now ++ between) → Stays z root now (now ++ between)
-others_stay z root d now [] none map respects = subst (λ (h : List Entry). Stays z root now h) (sym (append-nil now)) (record { map = map; block = λ q u fields there plain. (there, (fields, plain)) })
+pub others_stay : (z : Sizes) (root : Label) (d : ℕ) (now between : List Entry) → NoneOf d between → IsMap (graph_of z now) root → OthersRespect z root d now (now ++ between) → MapStays z root now (now ++ between)
+others_stay z root d now [] none map respects = subst (λ (h : List Entry). MapStays z root now h) (sym (append-nil now)) (record { map = map; block = λ q u fields there plain. (there, (fields, plain)) })
 others_stay z root d now (e ∷ more) none map respects =
     let parts = none_cons d e more none in
     let whole : (now ++ e ∷ []) ++ more ≡ now ++ e ∷ more = append_assoc now (e ∷ []) more in
     let step : MapStep z.domains root (state_of z now) e = (respects now e (prefix_same now) (record { rest = more; appends = sym whole }) parts.0).step in
     let there : state_of z (now ++ e ∷ []) ≡ next (state_of z now) e = state_after-push (opening z) now e in
     let map_next : IsMap (graph_of z (now ++ e ∷ [])) root = subst (λ (t : State). IsMap t.graph root) (sym there) (map_stays z.domains root (state_of z now) e map step) in
-    let rest : Stays z root (now ++ e ∷ []) ((now ++ e ∷ []) ++ more) = others_stay z root d (now ++ e ∷ []) more parts.1 map_next
+    let rest : MapStays z root (now ++ e ∷ []) ((now ++ e ∷ []) ++ more) = others_stay z root d (now ++ e ∷ []) more parts.1 map_next
     (respects_within z root d now (now ++ e ∷ more) (now ++ e ∷ []) ((now ++ e ∷ []) ++ more) (record { rest = e ∷ []; appends = refl }) (record { rest = []; appends = sym whole ∙ sym (append-nil ((now ++ e ∷ []) ++ more)) }) respects) in
-    subst (λ (h : List Entry). Stays z root now h) whole
+    subst (λ (h : List Entry). MapStays z root now h) whole
     (record {
       map = rest.map;
       block = λ q u fields at_now plain.
@@ -98,7 +98,7 @@ quiet_respects z root front e same = record {
 }
 
 -- up to a command of the domain
-pub stays_middle : (z : Sizes) (root : Label) (d : ℕ) (first now new : List Entry) (c : Command) (r : Reply) (p : PerformedBy z d now new c r) → OthersRespect z root d first new → IsPrefix first now → IsMap (graph_of z now) root → Stays z root now (now ++ p.between)
+pub stays_middle : (z : Sizes) (root : Label) (d : ℕ) (first now new : List Entry) (c : Command) (r : Reply) (p : PerformedBy z d now new c r) → OthersRespect z root d first new → IsPrefix first now → IsMap (graph_of z now) root → MapStays z root now (now ++ p.between)
 stays_middle z root d first now new c r p respects grows map = others_stay z root d now p.between p.others map (respects_within z root d first new now (now ++ p.between) grows (until_new z d now new c r p) respects)
 
 pub leaf_middle : (z : Sizes) (root : Label) (d : ℕ) (first now new : List Entry) (c : Command) (r : Reply) (p : PerformedBy z d now new c r) → OthersRespect z root d first new → IsPrefix first now → (k : Label) (o : Option Value) (i : ℕ) (l : Label) (former : List Entry) (way : List ℕ)
@@ -144,13 +144,13 @@ quiet_looks z root d old new quiet = record {
 pub within_quiet : (z : Sizes) (root : Label) (d : ℕ) (first old new : List Entry) → OwnQuiet z d old new → OwnWithin z root d first old new
 within_quiet z root d first old new quiet front e since until mine = within_same (IsMadeBehind z d first) (graph_of z front) (graph_of z (front ++ e ∷ [])) root (quiet front e since until mine)
 
-pub stays_twice : (z : Sizes) (root : Label) (a b c : List Entry) → Stays z root a b → Stays z root b c → Stays z root a c
+pub stays_twice : (z : Sizes) (root : Label) (a b c : List Entry) → MapStays z root a b → MapStays z root b c → MapStays z root a c
 stays_twice z root a b c x y = record {
   map = y.map;
   block = λ q u fields there plain. let one = x.block q u fields there plain in y.block q u one.1.0 one.0 one.1.1;
 }
 
-pub stays_same : (z : Sizes) (root : Label) (a b c : List Entry) → graph_of z c ≡ graph_of z b → Stays z root a b → Stays z root a c
+pub stays_same : (z : Sizes) (root : Label) (a b c : List Entry) → graph_of z c ≡ graph_of z b → MapStays z root a b → MapStays z root a c
 stays_same z root a b c same x = record {
   map = subst (λ (g : Graph). IsMap g root) (sym same) x.map;
   block = λ q u fields there plain.

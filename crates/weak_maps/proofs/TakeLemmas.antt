@@ -39,7 +39,7 @@ use Rattle.weak_laws.specs.Maps.Within.{IsMadeBehind, OwnWithin}
 use Rattle.weak_laws.proofs.OfMaps.WithinLemmas.{within_twice, within_written}
 use Rattle.weak_maps.specs.Beside.{held_by}
 use Rattle.weak_maps.specs.Walks.{HoldsLeaf, Looking, OwnQuiet}
-use Rattle.weak_maps.specs.Fields.{AtField, Cleared, Finds, FoundBy, IsBeside, Stays, Taking}
+use Rattle.weak_maps.specs.Fields.{AtField, Cleared, Finds, FoundBy, IsBeside, MapStays, Taking}
 use Rattle.weak_maps.specs.Returns.{TakeReturns}
 use Rattle.weak_maps.proofs.BesideLemmas.{left_is, low_beside, same_held, set_here, set_other, since_old, sixteen}
 use Rattle.weak_maps.proofs.EntryLemmas.{own_entry}
@@ -105,7 +105,7 @@ module _ (z : Sizes) (limits : IsWithinLimits z) (root : Label) (d : ℕ) (first
     abbrev g : Graph
     g = graph_of z mid
 
-    stay : Stays z root front mid
+    stay : MapStays z root front mid
     stay = stays_twice z root front now mid x.stays (stays_middle z root d first now new c r p respects looking.grows looking.map)
 
     moved : (at (inside g) x.p (Block root) ≡ Some (Block x.l)) × ((left : List Value) × (inside g (Block x.l) ≡ Some left))

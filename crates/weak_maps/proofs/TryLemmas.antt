@@ -22,7 +22,7 @@ use Rattle.weak_laws.specs.Maps.Within.{IsMadeBehind}
 use Rattle.weak_laws.proofs.OfMaps.WithinLemmas.{within_twice}
 use Rattle.weak_maps.specs.Beside.{held_by}
 use Rattle.weak_maps.specs.Walks.{Looking, OwnQuiet}
-use Rattle.weak_maps.specs.Fields.{AtField, Cleared, IsBeside, Stays}
+use Rattle.weak_maps.specs.Fields.{AtField, Cleared, IsBeside, MapStays}
 use Rattle.weak_maps.specs.Puts.{Arrived, FieldFound, FindsField, GoesOn, KeepsLeaf, LeafMade, OwnBlock, Published, Putting, rest_of}
 use Rattle.weak_maps.specs.Returns.{TakeLeaves}
 use Rattle.weak_maps.proofs.BesideLemmas.{low_beside, set_here, set_other, sixteen}
@@ -74,7 +74,7 @@ module _ (z : Sizes) (limits : IsWithinLimits z) (root : Label) (d : ℕ) (old :
       )
 
   -- the field is read once more
-  pub put_read : (front now n1 new : List Entry) (first : List Entry) (r : Reply) (i rest : ℕ) (s : Reply) (level : ℕ) (x : AtField z d first front now root k i rest s) → level ≡ length x.p → GoesOn z root d old n1 → Stays z root front n1 → held_by z d n1 8 ≡ held_by z d now 8
+  pub put_read : (front now n1 new : List Entry) (first : List Entry) (r : Reply) (i rest : ℕ) (s : Reply) (level : ℕ) (x : AtField z d first front now root k i rest s) → level ≡ length x.p → GoesOn z root d old n1 → MapStays z root front n1 → held_by z d n1 8 ≡ held_by z d now 8
       → ((j : ℕ) → IsBeside j → held_by z d n1 j ≡ held_by z d old j) → (l : Label) → IsMadeBehind z d old l → OwnBlock z d n1 root 10 l (Ephe (Some k ∷ []) v) → PerformedBy z d n1 new (Load 9 8 i) r → OthersRespect z root d old new → Putting z d old new root k v i rest r level
   put_read front now n1 new first r i rest s level x deep on stays eight keeps l mine leaf p respects =
       let g = grows_by z d n1 new (Load 9 8 i) r p in

@@ -55,3 +55,8 @@ CrowdedAt z d old new map key r = (root k : Label) → held_by z d old map ≡ B
 abbrev pub RefusedAlone : Sizes → ℕ → List Entry → List Entry → ℕ → ℕ → Reply → Type 0
 RefusedAlone z d old new map key r = (root k : Label) → held_by z d old map ≡ Block root → held_by z d old key ≡ Block k → IsMap (graph_of z old) root → IsInPlace z.domains (graph_of z old) root → OthersRespect z root d old new → OthersLeave z root d old new
     → r ≡ reply.Full → refusals_by d new ≡ refusals_by d old + 1
+
+-- both, for a put that is answered `full`
+pub record FullAt (z : Sizes) (d : ℕ) (old new : List Entry) (map key : ℕ) (r : Reply) : Type 0 where
+  pub crowded : CrowdedAt z d old new map key r
+  pub alone : RefusedAlone z d old new map key r

@@ -17,7 +17,7 @@ use Rattle.weak_maps.specs.Beside.{held_by}
 use Rattle.weak_maps.specs.Walks.{HoldsLeaf, Looking}
 
 -- from one front to a later one a map is a map still, and its blocks stand where they stood
-pub record Stays (z : Sizes) (root : Label) (now later : List Entry) : Type 0 where
+pub record MapStays (z : Sizes) (root : Label) (now later : List Entry) : Type 0 where
   pub map : IsMap (graph_of z later) root
   pub block : (q : List ℕ) (u : Value) (fields : List Value) → at (inside (graph_of z now)) q (Block root) ≡ Some u → inside (graph_of z now) u ≡ Some fields
       → (at (inside (graph_of z later)) q (Block root) ≡ Some u) × ((left : List Value) × (inside (graph_of z later) u ≡ Some left))
@@ -45,7 +45,7 @@ pub record AtField (z : Sizes) (d : ℕ) (first front now : List Entry) (root k 
   pub was : at (inside (graph_of z front)) (p ++ index ∷ []) (Block root) ≡ Some v
   pub narrow : index < width_at p
   pub map : IsMap (graph_of z front) root
-  pub stays : Stays z root front now
+  pub stays : MapStays z root front now
 
 -- a walk wrote no register but 8, 9 and 11
 abbrev pub KeepsWalked : Sizes → ℕ → List Entry → List Entry → Type 0

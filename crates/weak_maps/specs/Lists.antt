@@ -1,3 +1,4 @@
+pub mod Frames
 pub mod Stretches
 pub mod Answers
 pub mod Counts

@@ -20,7 +20,7 @@ use Rattle.weak_laws.specs.Maps.Private.{IsPrivate}
 use Rattle.weak_laws.specs.Maps.Within.{IsMadeBehind, OwnWithin}
 use Rattle.weak_maps.specs.Beside.{held_by}
 use Rattle.weak_maps.specs.Walks.{Looking}
-use Rattle.weak_maps.specs.Fields.{AtField, IsBeside, KeepsWalked, Stays}
+use Rattle.weak_maps.specs.Fields.{AtField, IsBeside, KeepsWalked, MapStays}
 
 -- a leaf of this key, or of none
 abbrev pub IsLeafOf : Graph → Label → Label → Type 0
@@ -131,7 +131,7 @@ IsBlockAt z h root place = (b : Label) × (fields : List Value) × (at (inside (
 -- room was made at a field, or another call wrote it first: either way the call goes on from the same block, with the leaf in the making. Where the field held what it was to hold, and no other domain uses the map, it holds a block
 pub record RoomMade (z : Sizes) (d : ℕ) (front old new : List Entry) (root k l : Label) (v : Value) (place : List ℕ) (held : Value) : Type 0 where
   pub on : GoesOn z root d old new
-  pub stays : Stays z root front new
+  pub stays : MapStays z root front new
   pub leaf : OwnBlock z d new root 10 l (Ephe (Some k ∷ []) v)
   pub keeps : (i : ℕ) → i ≢ 11 → held_by z d new i ≡ held_by z d old i
   pub deeper : at (inside (graph_of z old)) place (Block root) ≡ Some held → OthersLeave z root d old new → IsBlockAt z new root place

@@ -1,10 +1,9 @@
 //! Maps that are cleaned.
 ghost use Rattle.std.specs.Prelude.{◌≡◌, ◌-◌, ◌<◌, ◌≤◌};
 ghost use Rattle.model_core.specs.declared.command.Command.TheVariants as command;
-ghost use Rattle.model_core.specs.History.{IsPrefix};
 ghost use Rattle.weak_laws.specs.Maps.Calls.{PerformedBy};
-ghost use Rattle.weak_maps.specs.Beside.{refusals_by, writings_by};
 ghost use Rattle.weak_maps.specs.Cleans.{CleansAt, CleansBlock, CleansField, EmptiesField, ForgetsHigh, width_of};
+ghost use Rattle.weak_maps.specs.Frames.{Leaves};
 
 use crate::machine::{Machine, perform};
 use crate::replies::{is_block, is_empty, is_other_kind};
@@ -22,14 +21,7 @@ fn width_of(left: u8) -> u16
 // Reads a field of the block in a register.
 fn read_field<M: Machine, R: Wait>(m: &mut M, rt: &R, value: u8, block: u8, index: u16) -> Reply
     requires few { (8 ≤ value) × (value < 16) × (block < 16) }
-    ensures sizes { M.sizes m.new ≡ M.sizes m.old }
-    ensures domain { M.domain m.new ≡ M.domain m.old }
-    ensures heap { M.heap m.new ≡ M.heap m.old }
-    ensures grows { IsPrefix (M.front m.old) (M.front m.new) }
-    ensures labels { M.labels_left m.new ≡ M.labels_left m.old }
-    ensures room { M.ephes_room m.old ≤ M.ephes_room m.new }
-    ensures given { refusals_by (M.domain m.old) (M.front m.new) ≡ refusals_by (M.domain m.old) (M.front m.old) }
-    ensures written { writings_by (M.domain m.old) (M.front m.new) ≡ writings_by (M.domain m.old) (M.front m.old) }
+    ensures leaves { Leaves M.sizes M.domain M.heap M.front M.labels_left M.ephes_room m.old m.new }
     ensures read { PerformedBy (M.sizes m.old) (M.domain m.old) (M.front m.old) (M.front m.new) (command.Load value block index) result }
 {
     perform(
@@ -46,14 +38,7 @@ fn read_field<M: Machine, R: Wait>(m: &mut M, rt: &R, value: u8, block: u8, inde
 // Reads the key of the leaf in a register into that register.
 fn read_key<M: Machine, R: Wait>(m: &mut M, rt: &R, value: u8) -> Reply
     requires few { (8 ≤ value) × (value < 16) }
-    ensures sizes { M.sizes m.new ≡ M.sizes m.old }
-    ensures domain { M.domain m.new ≡ M.domain m.old }
-    ensures heap { M.heap m.new ≡ M.heap m.old }
-    ensures grows { IsPrefix (M.front m.old) (M.front m.new) }
-    ensures labels { M.labels_left m.new ≡ M.labels_left m.old }
-    ensures room { M.ephes_room m.old ≤ M.ephes_room m.new }
-    ensures given { refusals_by (M.domain m.old) (M.front m.new) ≡ refusals_by (M.domain m.old) (M.front m.old) }
-    ensures written { writings_by (M.domain m.old) (M.front m.new) ≡ writings_by (M.domain m.old) (M.front m.old) }
+    ensures leaves { Leaves M.sizes M.domain M.heap M.front M.labels_left M.ephes_room m.old m.new }
     ensures read { PerformedBy (M.sizes m.old) (M.domain m.old) (M.front m.old) (M.front m.new) (command.GetKey value value 0) result }
 {
     perform(
@@ -70,14 +55,7 @@ fn read_key<M: Machine, R: Wait>(m: &mut M, rt: &R, value: u8) -> Reply
 // Puts the 0 in register 15 into a field of the block in a register.
 fn empty_field<M: Machine, R: Wait>(m: &mut M, rt: &R, block: u8, index: u16)
     requires few { block < 16 }
-    ensures sizes { M.sizes m.new ≡ M.sizes m.old }
-    ensures domain { M.domain m.new ≡ M.domain m.old }
-    ensures heap { M.heap m.new ≡ M.heap m.old }
-    ensures grows { IsPrefix (M.front m.old) (M.front m.new) }
-    ensures labels { M.labels_left m.new ≡ M.labels_left m.old }
-    ensures room { M.ephes_room m.old ≤ M.ephes_room m.new }
-    ensures given { refusals_by (M.domain m.old) (M.front m.new) ≡ refusals_by (M.domain m.old) (M.front m.old) }
-    ensures written { writings_by (M.domain m.old) (M.front m.new) ≡ writings_by (M.domain m.old) (M.front m.old) }
+    ensures leaves { Leaves M.sizes M.domain M.heap M.front M.labels_left M.ephes_room m.old m.new }
     ensures emptied { EmptiesField (M.sizes m.old) (M.domain m.old) (M.front m.old) (M.front m.new) block index }
 {
     let _done = perform(
@@ -96,17 +74,10 @@ fn empty_field<M: Machine, R: Wait>(m: &mut M, rt: &R, block: u8, index: u16)
 #[cycle(cleaning)]
 fn clean_field<M: Machine, R: Wait>(m: &mut M, rt: &R, block: u8, left: u8, index: u16) -> bool
     requires few { (left ≤ 6) × (block < 14 - left) }
-    ensures sizes { M.sizes m.new ≡ M.sizes m.old }
-    ensures domain { M.domain m.new ≡ M.domain m.old }
-    ensures heap { M.heap m.new ≡ M.heap m.old }
-    ensures grows { IsPrefix (M.front m.old) (M.front m.new) }
-    ensures labels { M.labels_left m.new ≡ M.labels_left m.old }
-    ensures room { M.ephes_room m.old ≤ M.ephes_room m.new }
-    ensures given { refusals_by (M.domain m.old) (M.front m.new) ≡ refusals_by (M.domain m.old) (M.front m.old) }
-    ensures written { writings_by (M.domain m.old) (M.front m.new) ≡ writings_by (M.domain m.old) (M.front m.old) }
+    ensures leaves { Leaves M.sizes M.domain M.heap M.front M.labels_left M.ephes_room m.old m.new }
     ensures cleaned { CleansField (M.sizes m.old) (M.domain m.old) (M.front m.old) (M.front m.new) block left index result }
 {
-    m.stands();
+    m.shows_legal();
     let value = 14 - left;
     let at = read_field(m, rt, value, block, index);
     if !is_block(&at) {
@@ -135,14 +106,7 @@ fn clean_field<M: Machine, R: Wait>(m: &mut M, rt: &R, block: u8, left: u8, inde
 #[cycle(cleaning)]
 fn clean_block<M: Machine, R: Wait>(m: &mut M, rt: &R, block: u8, left: u8) -> bool
     requires few { (left ≤ 6) × (block < 14 - left) }
-    ensures sizes { M.sizes m.new ≡ M.sizes m.old }
-    ensures domain { M.domain m.new ≡ M.domain m.old }
-    ensures heap { M.heap m.new ≡ M.heap m.old }
-    ensures grows { IsPrefix (M.front m.old) (M.front m.new) }
-    ensures labels { M.labels_left m.new ≡ M.labels_left m.old }
-    ensures room { M.ephes_room m.old ≤ M.ephes_room m.new }
-    ensures given { refusals_by (M.domain m.old) (M.front m.new) ≡ refusals_by (M.domain m.old) (M.front m.old) }
-    ensures written { writings_by (M.domain m.old) (M.front m.new) ≡ writings_by (M.domain m.old) (M.front m.old) }
+    ensures leaves { Leaves M.sizes M.domain M.heap M.front M.labels_left M.ephes_room m.old m.new }
     ensures cleaned { CleansBlock (M.sizes m.old) (M.domain m.old) (M.front m.old) (M.front m.new) block left (width_of left) result }
 {
     let mut empty = true;
@@ -156,17 +120,10 @@ fn clean_block<M: Machine, R: Wait>(m: &mut M, rt: &R, block: u8, left: u8) -> b
 
 // Empties registers 8 to 15.
 fn forget_high<M: Machine, R: Wait>(m: &mut M, rt: &R)
-    ensures sizes { M.sizes m.new ≡ M.sizes m.old }
-    ensures domain { M.domain m.new ≡ M.domain m.old }
-    ensures heap { M.heap m.new ≡ M.heap m.old }
-    ensures grows { IsPrefix (M.front m.old) (M.front m.new) }
-    ensures labels { M.labels_left m.new ≡ M.labels_left m.old }
-    ensures room { M.ephes_room m.old ≤ M.ephes_room m.new }
-    ensures given { refusals_by (M.domain m.old) (M.front m.new) ≡ refusals_by (M.domain m.old) (M.front m.old) }
-    ensures written { writings_by (M.domain m.old) (M.front m.new) ≡ writings_by (M.domain m.old) (M.front m.old) }
+    ensures leaves { Leaves M.sizes M.domain M.heap M.front M.labels_left M.ephes_room m.old m.new }
     ensures forgot { ForgetsHigh (M.sizes m.old) (M.domain m.old) (M.front m.old) (M.front m.new) 16 }
 {
-    m.stands();
+    m.shows_legal();
     'registers: for dst in 8..16u8 {
         let _empty = perform(m, rt, Command::Forget { dst });
     }
@@ -178,17 +135,10 @@ fn forget_high<M: Machine, R: Wait>(m: &mut M, rt: &R)
 /// nothing is made. Registers are below 8. Registers 8 to 15 hold nothing afterwards.
 pub fn map_clean<M: Machine, R: Wait>(m: &mut M, rt: &R, map: u8) -> bool
     requires few { map < 8 }
-    ensures sizes { M.sizes m.new ≡ M.sizes m.old }
-    ensures domain { M.domain m.new ≡ M.domain m.old }
-    ensures heap { M.heap m.new ≡ M.heap m.old }
-    ensures grows { IsPrefix (M.front m.old) (M.front m.new) }
-    ensures labels { M.labels_left m.new ≡ M.labels_left m.old }
-    ensures room { M.ephes_room m.old ≤ M.ephes_room m.new }
-    ensures given { refusals_by (M.domain m.old) (M.front m.new) ≡ refusals_by (M.domain m.old) (M.front m.old) }
-    ensures written { writings_by (M.domain m.old) (M.front m.new) ≡ writings_by (M.domain m.old) (M.front m.old) }
+    ensures leaves { Leaves M.sizes M.domain M.heap M.front M.labels_left M.ephes_room m.old m.new }
     ensures answer { CleansAt (M.sizes m.old) (M.domain m.old) (M.front m.old) (M.front m.new) map result }
 {
-    m.stands();
+    m.shows_legal();
     let _zero = perform(m, rt, Command::PutInt { dst: 15, value: 0 });
     let empty = clean_block(m, rt, map, 6);
     forget_high(m, rt);

@@ -1,12 +1,12 @@
 //! What a key is bound to.
-ghost use Rattle.std.specs.Prelude.{◌≡◌, ◌+◌, ◌<◌, ◌≤◌};
+ghost use Rattle.std.specs.Prelude.{◌≡◌, ◌+◌, ◌<◌};
 ghost use Rattle.model_core.specs.declared.graph.Value.TheVariants.{Block};
 ghost use Rattle.model_core.specs.declared.reply.Reply.TheVariants as variant;
-ghost use Rattle.model_core.specs.History.{IsPrefix};
 ghost use Rattle.weak_laws.specs.Tables.Performing.{full_of, is_spared};
-ghost use Rattle.weak_maps.specs.Beside.{WritesAtMost, refusals_by, writings_by};
+ghost use Rattle.weak_maps.specs.Beside.{writings_by};
 ghost use Rattle.weak_maps.specs.Walks.{Descended, Emptied, OwnQuiet};
 ghost use Rattle.weak_maps.specs.Returns.{FollowsAt, GetsAt};
+ghost use Rattle.weak_maps.specs.Frames.{Leaves, Reads};
 
 use crate::digits::{node_index, number_of, root_index};
 use crate::machine::{Machine, perform};
@@ -25,18 +25,11 @@ pub(crate) fn descend<M: Machine, R: Wait>(
     label: &Label,
 ) -> bool
     requires few { (map < 8) × (key < 8) }
-    ensures sizes { M.sizes m.new ≡ M.sizes m.old }
-    ensures domain { M.domain m.new ≡ M.domain m.old }
-    ensures heap { M.heap m.new ≡ M.heap m.old }
-    ensures grows { IsPrefix (M.front m.old) (M.front m.new) }
-    ensures labels { M.labels_left m.new ≡ M.labels_left m.old }
-    ensures room { M.ephes_room m.old ≤ M.ephes_room m.new }
-    ensures given { refusals_by (M.domain m.old) (M.front m.new) ≡ refusals_by (M.domain m.old) (M.front m.old) }
-    ensures written { writings_by (M.domain m.old) (M.front m.new) ≡ writings_by (M.domain m.old) (M.front m.old) }
+    ensures leaves { Leaves M.sizes M.domain M.heap M.front M.labels_left M.ephes_room m.old m.new }
     ensures quiet { OwnQuiet (M.sizes m.old) (M.domain m.old) (M.front m.old) (M.front m.new) }
     ensures met { Descended (M.sizes m.old) (M.domain m.old) (M.front m.old) (M.front m.new) map key label.now result }
 {
-    m.stands();
+    m.shows_legal();
     let number = number_of(m.domains(), label);
     let mut rest = number / 512;
     let mut at = perform(
@@ -73,13 +66,7 @@ pub(crate) fn descend<M: Machine, R: Wait>(
 fn unbound<M: Machine, R: Wait>(m: &mut M, rt: &R, dst: u8) -> Reply
     requires few { dst < 8 }
     ensures reply { result ≡ variant.Empty }
-    ensures sizes { M.sizes m.new ≡ M.sizes m.old }
-    ensures domain { M.domain m.new ≡ M.domain m.old }
-    ensures heap { M.heap m.new ≡ M.heap m.old }
-    ensures grows { IsPrefix (M.front m.old) (M.front m.new) }
-    ensures labels { M.labels_left m.new ≡ M.labels_left m.old }
-    ensures room { M.ephes_room m.old ≤ M.ephes_room m.new }
-    ensures given { refusals_by (M.domain m.old) (M.front m.new) ≡ refusals_by (M.domain m.old) (M.front m.old) }
+    ensures reads { Reads M.sizes M.domain M.heap M.front M.labels_left M.ephes_room m.old m.new (is_spared dst) }
     ensures written { writings_by (M.domain m.old) (M.front m.new) ≡ writings_by (M.domain m.old) (M.front m.old) + is_spared dst }
     ensures emptied { Emptied (M.sizes m.old) (M.domain m.old) (M.front m.old) (M.front m.new) dst }
 {
@@ -95,20 +82,14 @@ fn unbound<M: Machine, R: Wait>(m: &mut M, rt: &R, dst: u8) -> Reply
 /// none.
 pub fn map_get<M: Machine, R: Wait>(m: &mut M, rt: &R, dst: u8, map: u8, key: u8) -> Reply
     requires few { (dst < 8) × (map < 8) × (key < 8) }
-    ensures sizes { M.sizes m.new ≡ M.sizes m.old }
-    ensures domain { M.domain m.new ≡ M.domain m.old }
-    ensures heap { M.heap m.new ≡ M.heap m.old }
-    ensures grows { IsPrefix (M.front m.old) (M.front m.new) }
-    ensures labels { M.labels_left m.new ≡ M.labels_left m.old }
-    ensures room { M.ephes_room m.old ≤ M.ephes_room m.new }
-    ensures given { refusals_by (M.domain m.old) (M.front m.new) ≡ refusals_by (M.domain m.old) (M.front m.old) }
+    ensures reads { Reads M.sizes M.domain M.heap M.front M.labels_left M.ephes_room m.old m.new
+        (is_spared dst + is_spared dst) }
     ensures granted { full_of result ≡ 0 }
-    ensures written { WritesAtMost (M.domain m.old) (M.front m.old) (M.front m.new) (is_spared dst + is_spared dst) }
     ensures quiet { OwnQuiet (M.sizes m.old) (M.domain m.old) (M.front m.old) (M.front m.new) }
     ensures answer { GetsAt (M.sizes m.old) (M.domain m.old) (M.front m.old) (M.front m.new) dst map key result }
     ensures follows { FollowsAt (M.sizes m.old) (M.domain m.old) (M.front m.old) (M.front m.new) map }
 {
-    m.stands();
+    m.shows_legal();
     let Reply::Block(label) = m.show(key) else {
         return Reply::BadType;
     };

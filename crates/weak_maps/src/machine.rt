@@ -3,15 +3,15 @@ ghost use Rattle.std.specs.Prelude.{◌≡◌, ◌+◌, ◌<◌, ◌≤◌, ℕ,
 ghost use Rattle.model_core.specs.declared.entry.Entry.{Entry};
 ghost use Rattle.model_core.specs.declared.state.Sizes.{Sizes};
 ghost use Rattle.model_core.specs.Domains.{IsWithinLimits, domain_at, opening};
-ghost use Rattle.model_core.specs.History.{IsPrefix, Legal};
+ghost use Rattle.model_core.specs.History.{Legal};
 ghost use Rattle.model_core.specs.Commands.{shown};
 ghost use Rattle.model_core.specs.Registrations.{all_registered};
 ghost use Rattle.weak_laws.specs.Tables.Thinning.{state_of};
-ghost use Rattle.weak_laws.specs.Tables.Performing.{full_of, writes};
 ghost use Rattle.model_core.specs.Counts.Counts.{labels_of, labels_given, ephemerons_of, ephemerons_given};
 ghost use Rattle.weak_maps.specs.Commands.{IsMapCommand};
 ghost use Rattle.weak_laws.specs.Maps.Calls.{PerformedBy};
-ghost use Rattle.weak_maps.specs.Beside.{Refuses, Writes, held_by};
+ghost use Rattle.weak_maps.specs.Beside.{held_by};
+ghost use Rattle.weak_maps.specs.Frames.{Shows, Spends, Stays};
 
 use model_core::command::Command;
 use model_core::reply::Reply;
@@ -42,7 +42,7 @@ pub trait Machine {
 
     /// Nothing changes. The domain is one of the heap's, the numbers are within their limits, the history is legal and
     /// registers no finaliser of the domain, and each of its labels was given out or is left.
-    fn stands(&self)
+    fn shows_legal(&self)
         ensures inside { domain self.now < (sizes self.now).domains }
         ensures limits { IsWithinLimits (sizes self.now) }
         ensures legal { Legal (sizes self.now) (front self.now) }
@@ -56,12 +56,7 @@ pub trait Machine {
     /// The reply that shows what a register holds. No entry is made.
     fn show(&mut self, r: u8) -> Reply
         requires few { r < 16 }
-        ensures sizes { sizes self.new ≡ sizes self.old }
-        ensures domain { domain self.new ≡ domain self.old }
-        ensures heap { heap self.new ≡ heap self.old }
-        ensures front { front self.new ≡ front self.old }
-        ensures labels { labels_left self.new ≡ labels_left self.old }
-        ensures room { ephes_room self.new ≡ ephes_room self.old }
+        ensures shows { Shows sizes domain heap front labels_left ephes_room self.old self.new }
         ensures reply { result ≡ shown (held_by (sizes self.old) (domain self.old) (front self.old) r) };
 
     /// Makes a command. The history grows by entries of the collector and of other domains, and then by this one. It gives
@@ -71,9 +66,7 @@ pub trait Machine {
         requires fits { IsMapCommand c }
         requires label { labels_of c ≤ labels_left self.old }
         requires room { ephemerons_of c ≤ ephes_room self.old }
-        ensures sizes { sizes self.new ≡ sizes self.old }
-        ensures domain { domain self.new ≡ domain self.old }
-        ensures heap { heap self.new ≡ heap self.old }
+        ensures stays { Stays sizes domain heap self.old self.new }
         ensures labels { labels_left self.old ≡ labels_left self.new + labels_given c result }
         ensures room { ephes_room self.old ≤ ephes_room self.new + ephemerons_given c result }
         ensures performed { PerformedBy (sizes self.old) (domain self.old) (front self.old) (front self.new) c result };
@@ -86,17 +79,9 @@ pub fn perform<M: Machine, R: Wait>(m: &mut M, rt: &R, c: Command) -> Reply
     requires fits { IsMapCommand c }
     requires label { labels_of c ≤ M.labels_left m.old }
     requires room { ephemerons_of c ≤ M.ephes_room m.old }
-    ensures sizes { M.sizes m.new ≡ M.sizes m.old }
-    ensures domain { M.domain m.new ≡ M.domain m.old }
-    ensures heap { M.heap m.new ≡ M.heap m.old }
-    ensures grows { IsPrefix (M.front m.old) (M.front m.new) }
-    ensures labels { M.labels_left m.old ≡ M.labels_left m.new + labels_given c result }
-    ensures room { M.ephes_room m.old ≤ M.ephes_room m.new + ephemerons_of c }
-    ensures refused { Refuses (M.domain m.old) (M.front m.old) (M.front m.new) (full_of result) }
-    ensures given { labels_given c result + full_of result ≡ labels_of c }
-    ensures written { Writes (M.domain m.old) (M.front m.old) (M.front m.new) (writes c) }
+    ensures spends { Spends M.sizes M.domain M.heap M.front M.labels_left M.ephes_room m.old m.new c result }
     ensures performed { PerformedBy (M.sizes m.old) (M.domain m.old) (M.front m.old) (M.front m.new) c result }
 {
-    m.stands();
+    m.shows_legal();
     m.perform(rt, c)
 }

@@ -1,5 +1,5 @@
 //! Bindings that are put.
-ghost use Rattle.std.specs.Prelude.{◌≡◌, ◌+◌, ◌<◌, ◌≤◌, cond};
+ghost use Rattle.std.specs.Prelude.{◌≡◌, ◌+◌, ◌<◌, ◌≤◌};
 ghost use Rattle.model_core.specs.declared.graph.Value.TheVariants.{Block};
 ghost use Rattle.model_core.specs.declared.command.Command.TheVariants as command;
 ghost use Rattle.model_core.specs.declared.reply.Reply as replies;
@@ -8,10 +8,11 @@ ghost use Rattle.weak_laws.specs.Maps.Calls.{PerformedBy};
 ghost use Rattle.weak_laws.specs.Maps.Tries.{node_width};
 ghost use Rattle.weak_maps.specs.Beside.{refusals_by, writings_by};
 ghost use Rattle.weak_maps.specs.Puts.{MakesLeaf, MakesRoom, Publishes};
-ghost use Rattle.weak_maps.specs.Crowds.{CrowdedAt, PutSpends, RefusedAlone};
+ghost use Rattle.weak_maps.specs.Crowds.{FullAt, PutCounts};
 ghost use Rattle.weak_maps.specs.Guards.{LeafGuards, PutGuards, RoomGuards, SettleGuards};
 ghost use Rattle.weak_maps.specs.Returns.{FollowsAt, PutsAt};
 ghost use Rattle.weak_maps.specs.Settles.{rooms_after, Settles, SettlesAlone, TryRefuses};
+ghost use Rattle.weak_maps.specs.Frames.{Leaves, Makes, Puts, Stays};
 
 use crate::digits::{node_index, number_of, rest_below, serial_of};
 use crate::machine::{Machine, perform};
@@ -42,18 +43,12 @@ fn make_leaf<M: Machine, R: Wait>(m: &mut M, rt: &R, key: u8, item: u8) -> bool
     requires few { (key < 8) × (item < 8) }
     requires label { 1 ≤ M.labels_left m.old }
     requires room { 1 ≤ M.ephes_room m.old }
-    ensures sizes { M.sizes m.new ≡ M.sizes m.old }
-    ensures domain { M.domain m.new ≡ M.domain m.old }
-    ensures heap { M.heap m.new ≡ M.heap m.old }
-    ensures grows { IsPrefix (M.front m.old) (M.front m.new) }
-    ensures labels { M.labels_left m.old ≡ M.labels_left m.new + cond result 1 0 }
+    ensures makes { Makes M.sizes M.domain M.heap M.front M.labels_left m.old m.new result }
     ensures room { M.ephes_room m.old ≤ M.ephes_room m.new + 1 }
-    ensures refused { refusals_by (M.domain m.old) (M.front m.new) ≡ refusals_by (M.domain m.old) (M.front m.old) + cond result 0 1 }
-    ensures written { writings_by (M.domain m.old) (M.front m.new) ≡ writings_by (M.domain m.old) (M.front m.old) }
     ensures guards { LeafGuards (M.sizes m.old) (M.domain m.old) (M.front m.old) (M.front m.new) key item }
     ensures made { MakesLeaf (M.sizes m.old) (M.domain m.old) (M.front m.old) (M.front m.new) key item result }
 {
-    m.stands();
+    m.shows_legal();
     let made = perform(m, rt, Command::Ephe { dst: 10, keys: 1 });
     if is_full(&made) {
         return false;
@@ -74,18 +69,11 @@ fn make_leaf<M: Machine, R: Wait>(m: &mut M, rt: &R, key: u8, item: u8) -> bool
 // Puts the leaf in register 10 into a field of the block in register 8, where that holds what register 9 holds. Tells whether
 // it did.
 fn publish<M: Machine, R: Wait>(m: &mut M, rt: &R, index: u16) -> bool
-    ensures sizes { M.sizes m.new ≡ M.sizes m.old }
-    ensures domain { M.domain m.new ≡ M.domain m.old }
-    ensures heap { M.heap m.new ≡ M.heap m.old }
-    ensures labels { M.labels_left m.new ≡ M.labels_left m.old }
-    ensures room { M.ephes_room m.old ≤ M.ephes_room m.new }
-    ensures given { refusals_by (M.domain m.old) (M.front m.new) ≡ refusals_by (M.domain m.old) (M.front m.old) }
-    ensures written { writings_by (M.domain m.old) (M.front m.new) ≡ writings_by (M.domain m.old) (M.front m.old) }
-    ensures grows { IsPrefix (M.front m.old) (M.front m.new) }
+    ensures leaves { Leaves M.sizes M.domain M.heap M.front M.labels_left M.ephes_room m.old m.new }
     ensures once { (r : replies.Reply) × PerformedBy (M.sizes m.old) (M.domain m.old) (M.front m.old) (M.front m.new) (command.Cas 8 index 9 10) r }
     ensures published { Publishes (M.sizes m.old) (M.domain m.old) (M.front m.old) (M.front m.new) index result }
 {
-    m.stands();
+    m.shows_legal();
     let won = exchange(m, rt, index);
     is_yes(&won)
 }
@@ -95,18 +83,12 @@ fn publish<M: Machine, R: Wait>(m: &mut M, rt: &R, index: u16) -> bool
 fn make_room<M: Machine, R: Wait>(m: &mut M, rt: &R, index: u16, digit: u16) -> bool
     requires small { digit < node_width }
     requires label { 1 ≤ M.labels_left m.old }
-    ensures sizes { M.sizes m.new ≡ M.sizes m.old }
-    ensures domain { M.domain m.new ≡ M.domain m.old }
-    ensures heap { M.heap m.new ≡ M.heap m.old }
-    ensures labels { M.labels_left m.old ≡ M.labels_left m.new + cond result 1 0 }
+    ensures makes { Makes M.sizes M.domain M.heap M.front M.labels_left m.old m.new result }
     ensures room { M.ephes_room m.old ≤ M.ephes_room m.new }
-    ensures refused { refusals_by (M.domain m.old) (M.front m.new) ≡ refusals_by (M.domain m.old) (M.front m.old) + cond result 0 1 }
-    ensures written { writings_by (M.domain m.old) (M.front m.new) ≡ writings_by (M.domain m.old) (M.front m.old) }
-    ensures grows { IsPrefix (M.front m.old) (M.front m.new) }
     ensures guards { RoomGuards (M.sizes m.old) (M.domain m.old) (M.front m.old) (M.front m.new) index digit }
     ensures made { MakesRoom (M.sizes m.old) (M.domain m.old) (M.front m.old) (M.front m.new) index digit result }
 {
-    m.stands();
+    m.shows_legal();
     let made = perform(
         m,
         rt,
@@ -152,9 +134,7 @@ fn settle<M: Machine, R: Wait>(
     rooms: u8,
 ) -> Try
     requires labels { rooms ≤ M.labels_left m.old }
-    ensures sizes { M.sizes m.new ≡ M.sizes m.old }
-    ensures domain { M.domain m.new ≡ M.domain m.old }
-    ensures heap { M.heap m.new ≡ M.heap m.old }
+    ensures stays { Stays M.sizes M.domain M.heap m.old m.new }
     ensures labels { M.labels_left m.old + rooms_after rooms result ≡ M.labels_left m.new + rooms }
     ensures fewer { rooms_after rooms result ≤ rooms }
     ensures room { M.ephes_room m.old ≤ M.ephes_room m.new }
@@ -165,7 +145,7 @@ fn settle<M: Machine, R: Wait>(
     ensures settled { Settles (M.sizes m.old) (M.domain m.old) (M.front m.old) (M.front m.new) label.now from.index from.rest level from.other result }
     ensures alone { SettlesAlone (M.sizes m.old) (M.domain m.old) (M.front m.old) (M.front m.new) label.now from.index from.rest level from.other rooms result }
 {
-    m.stands();
+    m.shows_legal();
     let _serial = serial_of(label);
     let Some(other) = from.other else {
         if publish(m, rt, from.index) {
@@ -204,21 +184,13 @@ pub fn map_put<M: Machine, R: Wait>(m: &mut M, rt: &R, map: u8, key: u8, item: u
     requires few { (map < 8) × (key < 8) × (item < 8) }
     requires labels { 7 ≤ M.labels_left m.old }
     requires room { 1 ≤ M.ephes_room m.old }
-    ensures sizes { M.sizes m.new ≡ M.sizes m.old }
-    ensures domain { M.domain m.new ≡ M.domain m.old }
-    ensures heap { M.heap m.new ≡ M.heap m.old }
-    ensures grows { IsPrefix (M.front m.old) (M.front m.new) }
-    ensures counts { PutSpends (M.domain m.old) (M.labels_left m.old) (M.labels_left m.new)
-        (M.front m.old) (M.front m.new) result }
-    ensures room { M.ephes_room m.old ≤ M.ephes_room m.new + 1 }
-    ensures written { writings_by (M.domain m.old) (M.front m.new) ≡ writings_by (M.domain m.old) (M.front m.old) }
+    ensures puts { Puts M.sizes M.domain M.heap M.front M.labels_left M.ephes_room m.old m.new PutCounts result }
     ensures guards { PutGuards (M.sizes m.old) (M.domain m.old) (M.front m.old) (M.front m.new) map }
     ensures answer { PutsAt (M.sizes m.old) (M.domain m.old) (M.front m.old) (M.front m.new) map key item result }
-    ensures crowded { CrowdedAt (M.sizes m.old) (M.domain m.old) (M.front m.old) (M.front m.new) map key result }
-    ensures alone { RefusedAlone (M.sizes m.old) (M.domain m.old) (M.front m.old) (M.front m.new) map key result }
+    ensures full { FullAt (M.sizes m.old) (M.domain m.old) (M.front m.old) (M.front m.new) map key result }
     ensures follows { FollowsAt (M.sizes m.old) (M.domain m.old) (M.front m.old) (M.front m.new) map }
 {
-    m.stands();
+    m.shows_legal();
     let Reply::Block(label) = m.show(key) else {
         return Reply::BadType;
     };
@@ -237,7 +209,7 @@ pub fn map_put<M: Machine, R: Wait>(m: &mut M, rt: &R, map: u8, key: u8, item: u
     let mut level = 0u8;
     let mut rooms = 6u8;
     'tries: for _ in rt.forever() {
-        m.stands();
+        m.shows_legal();
         from = find(m, rt, key, &label, from, at);
         level = level.saturating_add(from.steps);
         match settle(m, rt, &label, from, level, rooms) {

@@ -1,17 +1,16 @@
 //! Bindings that are taken out.
-ghost use Rattle.std.specs.Prelude.{◌≡◌, ◌<◌, ◌≤◌, ◌/◌, ◌%◌};
+ghost use Rattle.std.specs.Prelude.{◌≡◌, ◌<◌, ◌/◌, ◌%◌};
 ghost use Rattle.model_core.specs.declared.command.Command.TheVariants as command;
 ghost use Rattle.model_core.specs.declared.graph.Value.TheVariants.{Block};
-ghost use Rattle.model_core.specs.History.{IsPrefix};
 ghost use Rattle.weak_laws.specs.Maps.Calls.{PerformedBy};
 ghost use Rattle.weak_laws.specs.Tables.Performing.{full_of};
 ghost use Rattle.weak_laws.specs.Maps.Tries.{root_width};
-ghost use Rattle.weak_maps.specs.Beside.{refusals_by, writings_by};
 ghost use Rattle.weak_maps.specs.Fields.{Cleared, Finds};
 ghost use Rattle.weak_maps.specs.Guards.{TakeGuards};
 ghost use Rattle.weak_maps.specs.Puts.{FindsField, KeepsLeaf};
 ghost use Rattle.weak_maps.specs.Returns.{FollowsAt, TakesAt};
 ghost use Rattle.weak_maps.specs.Walks.{OwnQuiet};
+ghost use Rattle.weak_maps.specs.Frames.{Leaves};
 
 use crate::digits::{node_index, number_of, root_index};
 use crate::machine::{Machine, perform};
@@ -61,20 +60,13 @@ pub(crate) fn find<M: Machine, R: Wait>(
     field: Reply,
 ) -> Search
     requires few { key < 8 }
-    ensures sizes { M.sizes m.new ≡ M.sizes m.old }
-    ensures domain { M.domain m.new ≡ M.domain m.old }
-    ensures heap { M.heap m.new ≡ M.heap m.old }
-    ensures labels { M.labels_left m.new ≡ M.labels_left m.old }
-    ensures room { M.ephes_room m.old ≤ M.ephes_room m.new }
-    ensures given { refusals_by (M.domain m.old) (M.front m.new) ≡ refusals_by (M.domain m.old) (M.front m.old) }
-    ensures written { writings_by (M.domain m.old) (M.front m.new) ≡ writings_by (M.domain m.old) (M.front m.old) }
-    ensures grows { IsPrefix (M.front m.old) (M.front m.new) }
+    ensures leaves { Leaves M.sizes M.domain M.heap M.front M.labels_left M.ephes_room m.old m.new }
     ensures quiet { OwnQuiet (M.sizes m.old) (M.domain m.old) (M.front m.old) (M.front m.new) }
     ensures leaf { KeepsLeaf (M.sizes m.old) (M.domain m.old) (M.front m.old) (M.front m.new) key label.now from.index from.rest field }
     ensures field { FindsField (M.sizes m.old) (M.domain m.old) (M.front m.old) (M.front m.new) key label.now from.index from.rest field result.index result.rest result.steps result.other }
     ensures found { Finds (M.sizes m.old) (M.domain m.old) (M.front m.old) (M.front m.new) key label.now from.index from.rest field result.index result.rest result.mine }
 {
-    m.stands();
+    m.shows_legal();
     let mut index = from.index;
     let mut rest = from.rest;
     let mut steps = 0u8;
@@ -118,14 +110,7 @@ pub(crate) fn find<M: Machine, R: Wait>(
 
 // Reads into register 9 the field of the block in register 8 to which a search came.
 pub(crate) fn read_again<M: Machine, R: Wait>(m: &mut M, rt: &R, index: u16) -> Reply
-    ensures sizes { M.sizes m.new ≡ M.sizes m.old }
-    ensures domain { M.domain m.new ≡ M.domain m.old }
-    ensures heap { M.heap m.new ≡ M.heap m.old }
-    ensures grows { IsPrefix (M.front m.old) (M.front m.new) }
-    ensures labels { M.labels_left m.new ≡ M.labels_left m.old }
-    ensures room { M.ephes_room m.old ≤ M.ephes_room m.new }
-    ensures given { refusals_by (M.domain m.old) (M.front m.new) ≡ refusals_by (M.domain m.old) (M.front m.old) }
-    ensures written { writings_by (M.domain m.old) (M.front m.new) ≡ writings_by (M.domain m.old) (M.front m.old) }
+    ensures leaves { Leaves M.sizes M.domain M.heap M.front M.labels_left M.ephes_room m.old m.new }
     ensures read { PerformedBy (M.sizes m.old) (M.domain m.old) (M.front m.old) (M.front m.new) (command.Load 9 8 index) result }
 {
     perform(
@@ -142,14 +127,7 @@ pub(crate) fn read_again<M: Machine, R: Wait>(m: &mut M, rt: &R, index: u16) -> 
 // Puts what register 10 holds into a field of the block in register 8, where that holds what register 9 holds. Answers whether
 // it did.
 pub(crate) fn exchange<M: Machine, R: Wait>(m: &mut M, rt: &R, index: u16) -> Reply
-    ensures sizes { M.sizes m.new ≡ M.sizes m.old }
-    ensures domain { M.domain m.new ≡ M.domain m.old }
-    ensures heap { M.heap m.new ≡ M.heap m.old }
-    ensures grows { IsPrefix (M.front m.old) (M.front m.new) }
-    ensures labels { M.labels_left m.new ≡ M.labels_left m.old }
-    ensures room { M.ephes_room m.old ≤ M.ephes_room m.new }
-    ensures given { refusals_by (M.domain m.old) (M.front m.new) ≡ refusals_by (M.domain m.old) (M.front m.old) }
-    ensures written { writings_by (M.domain m.old) (M.front m.new) ≡ writings_by (M.domain m.old) (M.front m.old) }
+    ensures leaves { Leaves M.sizes M.domain M.heap M.front M.labels_left M.ephes_room m.old m.new }
     ensures exchanged { PerformedBy (M.sizes m.old) (M.domain m.old) (M.front m.old) (M.front m.new) (command.Cas 8 index 9 10) result }
 {
     perform(
@@ -166,14 +144,7 @@ pub(crate) fn exchange<M: Machine, R: Wait>(m: &mut M, rt: &R, index: u16) -> Re
 
 // Empties the registers that the calls use between.
 pub(crate) fn clear<M: Machine, R: Wait>(m: &mut M, rt: &R)
-    ensures sizes { M.sizes m.new ≡ M.sizes m.old }
-    ensures domain { M.domain m.new ≡ M.domain m.old }
-    ensures heap { M.heap m.new ≡ M.heap m.old }
-    ensures grows { IsPrefix (M.front m.old) (M.front m.new) }
-    ensures labels { M.labels_left m.new ≡ M.labels_left m.old }
-    ensures room { M.ephes_room m.old ≤ M.ephes_room m.new }
-    ensures given { refusals_by (M.domain m.old) (M.front m.new) ≡ refusals_by (M.domain m.old) (M.front m.old) }
-    ensures written { writings_by (M.domain m.old) (M.front m.new) ≡ writings_by (M.domain m.old) (M.front m.old) }
+    ensures leaves { Leaves M.sizes M.domain M.heap M.front M.labels_left M.ephes_room m.old m.new }
     ensures cleared { Cleared (M.sizes m.old) (M.domain m.old) (M.front m.old) (M.front m.new) }
 {
     let _eight = perform(m, rt, Command::Forget { dst: 8 });
@@ -189,20 +160,13 @@ pub(crate) fn clear<M: Machine, R: Wait>(m: &mut M, rt: &R)
 /// the call tries again. Each entry of the call respects the map, as long as the others' entries before it did.
 pub fn map_take<M: Machine, R: Wait>(m: &mut M, rt: &R, map: u8, key: u8) -> Reply
     requires few { (map < 8) × (key < 8) }
-    ensures sizes { M.sizes m.new ≡ M.sizes m.old }
-    ensures domain { M.domain m.new ≡ M.domain m.old }
-    ensures heap { M.heap m.new ≡ M.heap m.old }
-    ensures grows { IsPrefix (M.front m.old) (M.front m.new) }
-    ensures labels { M.labels_left m.new ≡ M.labels_left m.old }
-    ensures room { M.ephes_room m.old ≤ M.ephes_room m.new }
-    ensures given { refusals_by (M.domain m.old) (M.front m.new) ≡ refusals_by (M.domain m.old) (M.front m.old) }
+    ensures leaves { Leaves M.sizes M.domain M.heap M.front M.labels_left M.ephes_room m.old m.new }
     ensures granted { full_of result ≡ 0 }
-    ensures written { writings_by (M.domain m.old) (M.front m.new) ≡ writings_by (M.domain m.old) (M.front m.old) }
     ensures guards { TakeGuards (M.sizes m.old) (M.domain m.old) (M.front m.old) (M.front m.new) map }
     ensures answer { TakesAt (M.sizes m.old) (M.domain m.old) (M.front m.old) (M.front m.new) map key result }
     ensures follows { FollowsAt (M.sizes m.old) (M.domain m.old) (M.front m.old) (M.front m.new) map }
 {
-    m.stands();
+    m.shows_legal();
     let Reply::Block(label) = m.show(key) else {
         return Reply::BadType;
     };

@@ -39,7 +39,7 @@ in_chain (cells ∷ css) (suc i) =
     omega (arith, rest, both)
 
 -- those of a bucket that were passed
-pub passed_few : (z : Sizes) (h : List Entry) (root : Label) (chains : List (List Cell)) (i : ℕ) (done rest : List Cell) → z.domains ≡ 1 → Legal z h → IsTable (state_of z h).graph root chains → get_or chains i [] ≡ done ++ rest
+passed_few : (z : Sizes) (h : List Entry) (root : Label) (chains : List (List Cell)) (i : ℕ) (done rest : List Cell) → z.domains ≡ 1 → Legal z h → IsTable (state_of z h).graph root chains → get_or chains i [] ≡ done ++ rest
     → length done + length done ≤ (domain_at (state_of z h) 0).serial
 passed_few z h root chains i done rest one legal table split =
     let g = (state_of z h).graph in
@@ -50,3 +50,8 @@ passed_few z h root chains i done rest one legal table split =
     let most = blocks_counted z h one legal in
     let parts : length (get_or chains i []) ≡ length done + length rest = ap length split ∙ length-append done rest in
     omega (arith, two, within, count, most, parts)
+
+-- so a walk that may pass so many cells as there are labels passes all
+pub never_all : (z : Sizes) (h : List Entry) (root : Label) (chains : List (List Cell)) (i : ℕ) (done rest : List Cell) → z.domains ≡ 1 → Legal z h → IsTable (state_of z h).graph root chains → get_or chains i [] ≡ done ++ rest
+    → (n left : ℕ) → length done ≡ n → n ≡ 4294967295 → (domain_at (state_of z h) 0).serial + left ≡ 4294967295 → ⊥
+never_all z h root chains i done rest one legal table split n left passed all labels = let few = passed_few z h root chains i done rest one legal table split in omega (arith, few, passed, all, labels)

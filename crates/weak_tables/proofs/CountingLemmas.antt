@@ -25,7 +25,7 @@ use Rattle.weak_laws.proofs.OfTables.StageLemmas.{goes_from, goes_reading, searc
 use Rattle.weak_laws.proofs.OfTables.WalkLemmas.{thinned_length, reading_declines, walk_kept, walk_ephe, walk_next, walk_check, walk_passes}
 use Rattle.weak_tables.specs.Commands.{IsBlock, one_of}
 use Rattle.weak_tables.specs.Held.{KeepsOthers, HoldsTable, Reads, Cleared}
-use Rattle.weak_tables.specs.Walks.{Counting, Counted, CountedTo}
+use Rattle.weak_tables.specs.Walks.{Counting, Counted, CountedAt, CountedTo}
 use Rattle.weak_tables.specs.Tables.{Counts}
 use Rattle.weak_tables.proofs.SearchLemmas.{sixteen, set_here, keeps_set, below_eight, keeps_all, reads_on, reads_from, shown_block, shown_none}
 use Rattle.weak_tables.proofs.TakeLemmas.{same_registers, cleared_clean, cleared_keeps, cleared_goes, cleared_reads}
@@ -286,3 +286,8 @@ module _ (z : Sizes) (limits : IsWithinLimits z) (root : Label) (chains : List (
 -- at a later front the table is held, and is no larger
 pub counted_holds : (z : Sizes) (old f : List Entry) (root : Label) (chains : List (List Cell)) (tr i n : ℕ) → tr < 8 → held_in z old tr ≡ Block root → CountedTo z old f root chains i n → HoldsTable z f tr
 counted_holds z old f root chains tr i n few held x = record { root = root; chains = chains; held = below_eight z old f tr few x.keeps ∙ held; table = x.reads.table }
+
+-- the next bucket was counted in the table that is left
+pub counted_here : (z y : Sizes) (old f new : List Entry) (root : Label) (chains : List (List Cell)) (tr i n m : ℕ) → y ≡ z → tr < 8 → held_in z old tr ≡ Block root → CountedTo z old f root chains i n → CountedAt y f new tr i m → Counted z f new root chains i m
+counted_here z y old f new root chains tr i n m sizes few held x counted =
+    subst (λ (w : Sizes). CountedAt w f new tr i m) sizes counted root chains (below_eight z old f tr few x.keeps ∙ held) x.reads.table

@@ -1,3 +1,4 @@
+pub mod FrameLemmas
 pub mod CellCounts
 pub mod TidyLemmas
 pub mod RegisteredLemmas

@@ -36,10 +36,10 @@ use Rattle.weak_laws.proofs.OfTables.StageLemmas.{goes_from, goes_on, goes_readi
 use Rattle.weak_laws.proofs.OfTables.FillLemmas.{whole, fill_data, fill_key, holding_datum}
 use Rattle.weak_laws.proofs.OfTables.GrowLemmas.{grow_ephe, grow_node, link_ephe, link_head, link_next, link_cell}
 use Rattle.weak_tables.specs.Held.{AllHave, Has, IsTidy, KeepsOthers, IsClean, HoldsTable, Reads, Cleared}
-use Rattle.weak_tables.specs.Walks.{CellAnswers, LinksCell, Found, Missed, Ready, Refused, Placed, LooksUp}
+use Rattle.weak_tables.specs.Walks.{CellAnswers, LinksCell, Found, Missed, Ready, Refused, Placed, PlacedAt, LooksUp}
 use Rattle.weak_tables.specs.Tables.{Puts, PutAnswers, Gets, GetAnswers}
 use Rattle.weak_tables.proofs.SearchLemmas.{set_here, set_other, keeps_set, below_eight, keeps_all, reads_on, reads_from}
-use Rattle.weak_tables.proofs.TakeLemmas.{thinned_none, goes_wider, cleared_clean, cleared_keeps, cleared_goes, cleared_reads, cleared_table, cleared_without, cleared_datum, same_registers}
+use Rattle.weak_tables.proofs.TakeLemmas.{shown_label, thinned_none, goes_wider, cleared_clean, cleared_keeps, cleared_goes, cleared_reads, cleared_table, cleared_without, cleared_datum, same_registers}
 use Rattle.weak_tables.proofs.TidyLemmas.{tidy_lasts, all_kept, has_cleared, has_kept, has_twice, one_other}
 
 pub prefix_on : (a b c : List Entry) → IsPrefix a b → IsPrefix b c → IsPrefix a c
@@ -536,9 +536,12 @@ shown_some (Int w) other = λ e. cc
 shown_some (Block l) other = λ e. cc
 shown_some Nothing other = absurd (other refl)
 
--- what `place` says, at the front and the numbers that a call began with
-pub placed_from : (z y : Sizes) (old first now : List Entry) (t : ℕ) (k : Label) (a b : Bool) → y ≡ z → first ≡ old → a ≡ b
-    → ((root : Label) (chains : List (List Cell)) → held_in y first t ≡ Block root → IsTable (graph_of y first) root chains → Placed y first now root chains k (is_bucket_full (graph_of y first) k chains) a)
-    → (root : Label) (chains : List (List Cell)) → held_in z old t ≡ Block root → IsTable (graph_of z old) root chains → Placed z old now root chains k (is_bucket_full (graph_of z old) k chains) b
-placed_from z y old first now t k a b sizes front answer s =
-    subst (λ (x : Sizes × List Entry × Bool). (root : Label) (chains : List (List Cell)) → held_in x.0 x.1 t ≡ Block root → IsTable (graph_of x.0 x.1) root chains → Placed x.0 x.1 now root chains k (is_bucket_full (graph_of x.0 x.1) k chains) x.2) (λ i. (sizes i, front i, answer i)) s
+-- what `place` says of the key and the datum that registers show, at the front and the numbers that a call began with
+pub placing : (z y w : Sizes) (old front first now : List Entry) (t kr ir : ℕ) (k : Label) (of_key of_item : Reply) (empty a b : Bool)
+    → y ≡ z → front ≡ old → of_key ≡ shown (held_in z old kr) → of_key ≡ reply.Block k → w ≡ y → first ≡ front → of_item ≡ shown (held_in y front ir) → (empty ≡ true) ↔ (of_item ≡ reply.Empty) → empty ≡ false → PlacedAt w first now t k a → a ≡ b
+    → (held_in z old kr ≡ Block k) × (held_in z old ir ≢ Nothing) × PlacedAt z old now t k b
+placing z y w old front first now t kr ir k of_key of_item empty a b sizes same shows is sizes_then same_then shows_item tells some placed answer = (
+  shown_label (held_in z old kr) k (sym shows ∙ is),
+  shown_some (held_in z old ir) (λ none. let clash : true ≡ false = sym (tells.1 (shows_item ∙ ((λ i. shown (held_in (sizes i) (same i) ir)) ∙ none))) ∙ some in cc),
+  subst (λ (x : Sizes × List Entry × Bool). PlacedAt x.0 x.1 now t k x.2) (λ i. ((sizes_then ∙ sizes) i, (same_then ∙ same) i, answer i)) placed,
+)

@@ -217,9 +217,6 @@ at_sizes z y a b c r same p = subst (λ (x : Sizes). Performed x a b c r) same p
 pub cleared_sizes : (z y : Sizes) (a b : List Entry) → y ≡ z → Cleared y a b → Cleared z a b
 cleared_sizes z y a b same c = subst (λ (x : Sizes). Cleared x a b) same c
 
-pub looks_from : (z y : Sizes) (old first now : List Entry) (t : ℕ) (k : Label) (b : Bool) → y ≡ z → first ≡ old → LooksUp y first now t k b → LooksUp z old now t k b
-looks_from z y old first now t k b sizes front s = subst (λ (x : Sizes × List Entry). LooksUp x.0 x.1 now t k b) (λ i. (sizes i, front i)) s
-
 pub kept_sizes : (z y : Sizes) (a b : List Entry) (r : Reply) (s t : Bool) → y ≡ z → KeepsSpare y a b r s t → KeepsSpare z a b r s t
 kept_sizes z y a b r s t same x = subst (λ (w : Sizes). KeepsSpare w a b r s t) same x
 
@@ -228,6 +225,10 @@ pub shown_label : (v : Value) (k : Label) → shown v ≡ reply.Block k → v �
 shown_label (Int w) k is = cc
 shown_label Nothing k is = cc
 shown_label (Block l) k is = let same : l ≡ k = cc in ap (λ (x : Label). Block x) same
+
+-- a look-up of the key that a register shows, at the front and the numbers that a call began with
+pub looked : (z y : Sizes) (old first now : List Entry) (t kr : ℕ) (k : Label) (r : Reply) (found b : Bool) → y ≡ z → first ≡ old → r ≡ shown (held_in z old kr) → r ≡ reply.Block k → LooksUp y first now t k found → found ≡ b → (held_in z old kr ≡ Block k) × LooksUp z old now t k b
+looked z y old first now t kr k r found b sizes front shows is looks answer = (shown_label (held_in z old kr) k (sym shows ∙ is), subst (λ (x : Sizes × List Entry × Bool). LooksUp x.0 x.1 now t k x.2) (λ i. (sizes i, front i, answer i)) looks)
 
 module _ (z : Sizes) (limits : IsWithinLimits z) (root : Label) (chains : List (List Cell)) (k : Label) (tr kr : ℕ) (few : kr < 8) (old f : List Entry) (key : held_in z old kr ≡ Block k) (held : held_in z old tr ≡ Block root) (table : IsTable (graph_of z old) root chains) where
   label : Some k ≡ label_of (held_in z old kr)

@@ -12,7 +12,7 @@ use Rattle.weak_laws.specs.Tables.Structures.{IsWeakArray, slot_keys}
 use Rattle.weak_laws.specs.Tables.Thinning.{EmptiedBy, WasOutside}
 use Rattle.weak_laws.specs.Tables.Stages.{Goes, graph_of, held_in}
 use Rattle.model_core.specs.declared.reply.Reply.TheVariants as reply
-use Rattle.weak_tables.specs.Held.{AllHave, IsBare, KeepsOthers, IsClean, ReadsArray}
+use Rattle.weak_tables.specs.Held.{AllHave, IsBare, KeepsOthers, IsClean, OfArray, ReadsArray}
 
 -- nothing was read or written: there is no such slot, or no label to set
 pub record Spares (z : Sizes) (old new : List Entry) (root : Label) (slots : List Label) : Type 0 where
@@ -74,7 +74,7 @@ ArrayAnswers z old new dst count r = ((root : Label) × (r ≡ reply.Block root)
 
 -- what a call answers and leaves of whatever weak array stands in a register when it begins
 abbrev pub SlotReadAt : Sizes → List Entry → List Entry → ℕ → ℕ → ℕ → Reply → Type 0
-SlotReadAt z old new dst array index r = (root : Label) (slots : List Label) → held_in z old array ≡ Block root → IsWeakArray (graph_of z old) root slots → SlotAnswers z old new root slots dst index (slice_get slots index) r
+SlotReadAt z old new dst array index r = OfArray z old array (λ root slots. SlotAnswers z old new root slots dst index (slice_get slots index) r)
 
 abbrev pub SlotSetAt : Sizes → List Entry → List Entry → ℕ → ℕ → ℕ → Reply → Type 0
-SlotSetAt z old new array index item r = (root : Label) (slots : List Label) → held_in z old array ≡ Block root → IsWeakArray (graph_of z old) root slots → SetAnswers z old new root slots index (slice_get slots index) (label_of (held_in z old item)) r
+SlotSetAt z old new array index item r = OfArray z old array (λ root slots. SetAnswers z old new root slots index (slice_get slots index) (label_of (held_in z old item)) r)

@@ -41,6 +41,10 @@ pub record HoldsTable (z : Sizes) (h : List Entry) (r : ℕ) : Type 0 where
   pub held : held_in z h r ≡ Block root
   pub table : IsTable (graph_of z h) root chains
 
+-- whatever table a register holds
+abbrev pub OfTable : Sizes → List Entry → ℕ → (Label → List (List Cell) → Type 0) → Type 0
+OfTable z h r Is = (root : Label) (chains : List (List Cell)) → held_in z h r ≡ Block root → IsTable (graph_of z h) root chains → Is root chains
+
 -- a call that has changed no block of its own so far, and has thinned a table
 pub record Reads (z : Sizes) (first now : List Entry) (root : Label) (chains : List (List Cell)) : Type 0 where
   pub goes : Goes z first now []
@@ -53,6 +57,10 @@ pub record HoldsArray (z : Sizes) (h : List Entry) (r : ℕ) : Type 0 where
   pub slots : List Label
   pub held : held_in z h r ≡ Block root
   pub array : IsWeakArray (graph_of z h) root slots
+
+-- whatever weak array a register holds
+abbrev pub OfArray : Sizes → List Entry → ℕ → (Label → List Label → Type 0) → Type 0
+OfArray z h r Is = (root : Label) (slots : List Label) → held_in z h r ≡ Block root → IsWeakArray (graph_of z h) root slots → Is root slots
 
 -- a call that has changed no block of its own so far, and has thinned a weak array
 pub record ReadsArray (z : Sizes) (first now : List Entry) (root : Label) (slots : List Label) : Type 0 where

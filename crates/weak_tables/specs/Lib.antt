@@ -1,4 +1,5 @@
 pub mod Commands
+pub mod Frames
 pub mod Held
 pub mod Walks
 pub mod Tables

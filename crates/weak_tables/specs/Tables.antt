@@ -14,7 +14,7 @@ use Rattle.weak_laws.specs.Tables.Thinning.{ThinnedBy, WasOutside}
 use Rattle.weak_laws.specs.Tables.Stages.{Goes, graph_of, held_in}
 use Rattle.model_core.specs.declared.reply.Reply.TheVariants as reply
 use Rattle.weak_tables.specs.Commands.{value_of}
-use Rattle.weak_tables.specs.Held.{AllHave, IsTidy, KeepsOthers, IsClean, Reads}
+use Rattle.weak_tables.specs.Held.{AllHave, IsTidy, KeepsOthers, IsClean, OfTable, Reads}
 use Rattle.weak_tables.specs.Walks.{Grows, Refused}
 
 -- what `table_take` leaves of a table that bound the key: it binds what it bound, without the key
@@ -108,13 +108,13 @@ pub record Counts (z : Sizes) (old new : List Entry) (root : Label) (chains : Li
 
 -- what a call answers and leaves of whatever table stands in a register when it begins
 abbrev pub PutsAt : Sizes → List Entry → List Entry → ℕ → ℕ → ℕ → Reply → Type 0
-PutsAt z old new table key item r = (root : Label) (chains : List (List Cell)) → held_in z old table ≡ Block root → IsTable (graph_of z old) root chains → PutAnswers z old new root chains (label_of (held_in z old key)) (held_in z old item) r
+PutsAt z old new table key item r = OfTable z old table (λ root chains. PutAnswers z old new root chains (label_of (held_in z old key)) (held_in z old item) r)
 
 abbrev pub GetsAt : Sizes → List Entry → List Entry → ℕ → ℕ → ℕ → Reply → Type 0
-GetsAt z old new dst table key r = (root : Label) (chains : List (List Cell)) → held_in z old table ≡ Block root → IsTable (graph_of z old) root chains → GetAnswers z old new root chains dst (label_of (held_in z old key)) r
+GetsAt z old new dst table key r = OfTable z old table (λ root chains. GetAnswers z old new root chains dst (label_of (held_in z old key)) r)
 
 abbrev pub TakesAt : Sizes → List Entry → List Entry → ℕ → ℕ → Reply → Type 0
-TakesAt z old new table key r = (root : Label) (chains : List (List Cell)) → held_in z old table ≡ Block root → IsTable (graph_of z old) root chains → TakeAnswers z old new root chains (label_of (held_in z old key)) r
+TakesAt z old new table key r = OfTable z old table (λ root chains. TakeAnswers z old new root chains (label_of (held_in z old key)) r)
 
 abbrev pub CountsAt : Sizes → List Entry → List Entry → ℕ → ℕ → Type 0
-CountsAt z old new table count = (root : Label) (chains : List (List Cell)) → held_in z old table ≡ Block root → IsTable (graph_of z old) root chains → Counts z old new root chains count
+CountsAt z old new table count = OfTable z old table (λ root chains. Counts z old new root chains count)

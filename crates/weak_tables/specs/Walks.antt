@@ -11,14 +11,14 @@ use Rattle.model_core.specs.declared.reply.Reply.{Reply}
 use Rattle.model_core.specs.declared.state.Sizes.{Sizes}
 use Rattle.model_core.specs.Graph.{Graph, has_label, node_at}
 use Rattle.model_core.specs.Commands.{shown}
-use Rattle.weak_laws.specs.Tables.Structures.{Cell, bucket_count, chain_bindings, bindings, datum_at, without, head_of, table_labels, has_key, is_bucket_full, HasOneMore, IsTable}
+use Rattle.weak_laws.specs.Tables.Structures.{Cell, bucket_count, chain_bindings, bindings, datum_at, without, head_of, table_labels, has_key, is_bucket_full, HasOneMore}
 use Rattle.weak_laws.specs.Tables.Thinning.{ThinnedBy, WasOutside}
 use Rattle.weak_laws.specs.Tables.Performing.{Performed}
 use Rattle.weak_laws.specs.Tables.Stages.{Goes, Searching, Walking, Holding, Declines, Filling, graph_of, held_in}
 use Rattle.weak_tables.specs.declared.find.Find.{Find}
 use Rattle.weak_tables.specs.declared.find.Find.TheVariants.{Key, Spare, Nowhere}
 use Rattle.model_core.specs.declared.reply.Reply.TheVariants as reply
-use Rattle.weak_tables.specs.Held.{AllHave, IsTidy, KeepsOthers, Reads}
+use Rattle.weak_tables.specs.Held.{AllHave, IsTidy, KeepsOthers, OfTable, Reads}
 
 -- register 8 holds the ephemeron of one of these cells, and it has no key
 pub record HoldsSpare (z : Sizes) (h : List Entry) (cells : List Cell) : Type 0 where
@@ -77,7 +77,7 @@ Met z old new root chains k Nowhere = Missed z old new root chains k × IsTrue (
 
 -- whatever table the register holds
 abbrev pub Searched : Sizes → List Entry → List Entry → ℕ → Label → Find → Type 0
-Searched z old new table k find = (root : Label) (chains : List (List Cell)) → held_in z old table ≡ Block root → IsTable (graph_of z old) root chains → Met z old new root chains k find
+Searched z old new table k find = OfTable z old table (λ root chains. Met z old new root chains k find)
 
 -- what a search has met that has passed all cells
 abbrev pub passed_all : Bool → Find
@@ -90,7 +90,7 @@ Bound z old new root chains k true = Found z old new root chains k (Some k)
 Bound z old new root chains k false = Missed z old new root chains k
 
 abbrev pub LooksUp : Sizes → List Entry → List Entry → ℕ → Label → Bool → Type 0
-LooksUp z old new table k found = (root : Label) (chains : List (List Cell)) → held_in z old table ≡ Block root → IsTable (graph_of z old) root chains → Bound z old new root chains k found
+LooksUp z old new table k found = OfTable z old table (λ root chains. Bound z old new root chains k found)
 
 -- a table's chains are as they were, or have one cell more
 abbrev pub Grows : Graph → Label → List (List Cell) → List (List Cell) → Type 0
@@ -150,6 +150,14 @@ abbrev pub Placed : Sizes → List Entry → List Entry → Label → List (List
 Placed z old new root chains k full true = Ready z old new root chains k full
 Placed z old new root chains k full false = Refused z old new root chains
 
+-- whatever table the register holds
+abbrev pub PlacedAt : Sizes → List Entry → List Entry → ℕ → Label → Bool → Type 0
+PlacedAt z old new table k placed = OfTable z old table (λ root chains. Placed z old new root chains k (is_bucket_full (graph_of z old) k chains) placed)
+
+-- and that doesn't bind the key: a cell is made whatever the others have
+abbrev pub GrownAt : Sizes → List Entry → List Entry → ℕ → Label → Bool → Type 0
+GrownAt z old new table k placed = OfTable z old table (λ root chains. datum_at (bindings (graph_of z old) chains) k ≡ None → (full : Bool) → IsTrue full → Placed z old new root chains k full placed)
+
 -- in the midst of a bucket's count, which has passed so many cells: so many of them had a key when they were looked at
 pub record Counting (z : Sizes) (first now : List Entry) (root : Label) (chains : List (List Cell)) (i : ℕ) (at : Reply) (count passed : ℕ) : Type 0 where
   pub reads : Reads z first now root chains
@@ -170,6 +178,10 @@ pub record Counted (z : Sizes) (old new : List Entry) (root : Label) (chains : L
   pub declines : Declines z old new chains
   pub low : length (chain_bindings (graph_of z new) (slice_index_or chains i [])) ≤ count
   pub high : count ≤ length (chain_bindings (graph_of z old) (slice_index_or chains i []))
+
+-- whatever table the register holds
+abbrev pub CountedAt : Sizes → List Entry → List Entry → ℕ → ℕ → ℕ → Type 0
+CountedAt z old new table i count = OfTable z old table (λ root chains. Counted z old new root chains i count)
 
 -- these buckets were counted
 pub record CountedTo (z : Sizes) (old new : List Entry) (root : Label) (chains : List (List Cell)) (i count : ℕ) : Type 0 where

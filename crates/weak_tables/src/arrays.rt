@@ -1,10 +1,11 @@
 //! Weak arrays.
 ghost use Rattle.std.specs.Prelude.{◌≡◌, ◌+◌, ◌<◌, ◌≤◌};
 ghost use Rattle.weak_laws.specs.Tables.Performing.{refusals, full_of, writings, is_spared};
+ghost use Rattle.weak_tables.specs.Frames.{Keeps};
 ghost use Rattle.weak_tables.specs.Held.{HoldsArray};
 ghost use Rattle.weak_tables.specs.Arrays.{SlotReadAt, SlotSetAt};
 
-use crate::machine::{Machine, perform};
+use crate::machine::{EPHE, Machine, load, perform_plain};
 use crate::replies::is_past;
 use crate::taking::clear;
 use model_core::command::Command;
@@ -17,32 +18,22 @@ use std::sync::Wait;
 pub fn weak_get<M: Machine, R: Wait>(m: &mut M, rt: &R, dst: u8, array: u8, index: u16) -> Reply
     requires few { (dst < 8) × (array < 8) }
     requires array { HoldsArray (M.sizes m.old) (M.front m.old) array }
-    ensures sizes { M.sizes m.new ≡ M.sizes m.old }
-    ensures labels { M.labels_left m.new ≡ M.labels_left m.old }
-    ensures room { M.ephes_room m.old ≤ M.ephes_room m.new }
+    ensures keeps { Keeps M.sizes M.labels_left M.ephes_room m.old m.new }
     ensures refused { refusals (M.front m.new) ≡ refusals (M.front m.old) + full_of result }
     ensures written { writings (M.front m.new) ≤ writings (M.front m.old) + is_spared dst }
     ensures answer { SlotReadAt (M.sizes m.old) (M.front m.old) (M.front m.new) dst array index result }
 {
-    m.stands();
-    let slot = perform(
-        m,
-        rt,
-        Command::Load {
-            dst: 8,
-            src: array,
-            index,
-        },
-    );
+    m.shows_legal();
+    let slot = load(m, rt, EPHE, array, index);
     if is_past(&slot) {
         return Reply::BadIndex;
     }
-    let reply = perform(
+    let reply = perform_plain(
         m,
         rt,
         Command::GetKey {
             dst,
-            ephe: 8,
+            ephe: EPHE,
             index: 0,
         },
     );
@@ -56,31 +47,21 @@ pub fn weak_get<M: Machine, R: Wait>(m: &mut M, rt: &R, dst: u8, array: u8, inde
 pub fn weak_set<M: Machine, R: Wait>(m: &mut M, rt: &R, array: u8, index: u16, item: u8) -> Reply
     requires few { (array < 8) × (item < 8) }
     requires array { HoldsArray (M.sizes m.old) (M.front m.old) array }
-    ensures sizes { M.sizes m.new ≡ M.sizes m.old }
-    ensures labels { M.labels_left m.new ≡ M.labels_left m.old }
-    ensures room { M.ephes_room m.old ≤ M.ephes_room m.new }
+    ensures keeps { Keeps M.sizes M.labels_left M.ephes_room m.old m.new }
     ensures refused { refusals (M.front m.new) ≡ refusals (M.front m.old) + full_of result }
     ensures written { writings (M.front m.new) ≡ writings (M.front m.old) }
     ensures answer { SlotSetAt (M.sizes m.old) (M.front m.old) (M.front m.new) array index item result }
 {
-    m.stands();
-    let slot = perform(
-        m,
-        rt,
-        Command::Load {
-            dst: 8,
-            src: array,
-            index,
-        },
-    );
+    m.shows_legal();
+    let slot = load(m, rt, EPHE, array, index);
     if is_past(&slot) {
         return Reply::BadIndex;
     }
-    let reply = perform(
+    let reply = perform_plain(
         m,
         rt,
         Command::SetKey {
-            ephe: 8,
+            ephe: EPHE,
             index: 0,
             item,
         },

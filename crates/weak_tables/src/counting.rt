@@ -1,15 +1,11 @@
 //! How many bindings a table has.
-ghost use Rattle.std.specs.Prelude.{◌≡◌, ◌<◌, ◌≤◌, List};
-ghost use Rattle.model_core.specs.declared.graph.Value.TheVariants.{Block};
-ghost use Rattle.model_core.specs.declared.label.Label as labels;
-ghost use Rattle.weak_laws.specs.Tables.Structures.{Cell, IsTable};
-ghost use Rattle.weak_laws.specs.Tables.Performing.{refusals, writings};
-ghost use Rattle.weak_laws.specs.Tables.Stages.{graph_of, held_in};
+ghost use Rattle.std.specs.Prelude.{◌≡◌, ◌<◌, ◌≤◌};
+ghost use Rattle.weak_tables.specs.Frames.{Passes};
 ghost use Rattle.weak_tables.specs.Held.{HoldsTable};
-ghost use Rattle.weak_tables.specs.Walks.{Counted};
+ghost use Rattle.weak_tables.specs.Walks.{CountedAt};
 ghost use Rattle.weak_tables.specs.Tables.{CountsAt};
 
-use crate::machine::{Machine, perform};
+use crate::machine::{CELL, EPHE, Machine, NEXT, OWN, load, perform_between};
 use crate::replies::{is_block, one};
 use crate::taking::clear;
 use model_core::command::Command;
@@ -20,49 +16,27 @@ use std::sync::Wait;
 fn count_bucket<M: Machine, R: Wait>(m: &mut M, rt: &R, table: u8, index: u16) -> u32
     requires few { (table < 8) × (index < 64) }
     requires table { HoldsTable (M.sizes m.old) (M.front m.old) table }
-    ensures sizes { M.sizes m.new ≡ M.sizes m.old }
-    ensures labels { M.labels_left m.new ≡ M.labels_left m.old }
-    ensures room { M.ephes_room m.old ≤ M.ephes_room m.new }
-    ensures given { refusals (M.front m.new) ≡ refusals (M.front m.old) }
-    ensures written { writings (M.front m.new) ≡ writings (M.front m.old) }
-    ensures counted { (root : labels.Label) (chains : List (List Cell)) → held_in (M.sizes m.old) (M.front m.old) table ≡ Block root → IsTable (graph_of (M.sizes m.old) (M.front m.old)) root chains
-        → Counted (M.sizes m.old) (M.front m.old) (M.front m.new) root chains index result }
+    ensures passes { Passes M.sizes M.front M.labels_left M.ephes_room m.old m.new }
+    ensures counted { CountedAt (M.sizes m.old) (M.front m.old) (M.front m.new) table index result }
 {
-    m.stands();
+    m.shows_legal();
     let mut count: u32 = 0;
-    let mut at = perform(
-        m,
-        rt,
-        Command::Load {
-            dst: 9,
-            src: table,
-            index,
-        },
-    );
+    let mut at = load(m, rt, CELL, table, index);
     'cells: for _ in 0..u32::MAX {
         if !is_block(&at) {
             return count;
         }
-        let _ephe = perform(
+        let _ephe = load(m, rt, EPHE, CELL, OWN);
+        let full = perform_between(
             m,
             rt,
-            Command::Load {
-                dst: 8,
-                src: 9,
+            Command::CheckKey {
+                ephe: EPHE,
                 index: 0,
             },
         );
-        let full = perform(m, rt, Command::CheckKey { ephe: 8, index: 0 });
         count += one(&full);
-        at = perform(
-            m,
-            rt,
-            Command::Load {
-                dst: 9,
-                src: 9,
-                index: 1,
-            },
-        );
+        at = load(m, rt, CELL, CELL, NEXT);
     }
     unreachable!()
 }
@@ -72,14 +46,10 @@ fn count_bucket<M: Machine, R: Wait>(m: &mut M, rt: &R, table: u8, index: u16) -
 pub fn table_count<M: Machine, R: Wait>(m: &mut M, rt: &R, table: u8) -> u32
     requires few { table < 8 }
     requires table { HoldsTable (M.sizes m.old) (M.front m.old) table }
-    ensures sizes { M.sizes m.new ≡ M.sizes m.old }
-    ensures labels { M.labels_left m.new ≡ M.labels_left m.old }
-    ensures room { M.ephes_room m.old ≤ M.ephes_room m.new }
-    ensures given { refusals (M.front m.new) ≡ refusals (M.front m.old) }
-    ensures written { writings (M.front m.new) ≡ writings (M.front m.old) }
+    ensures passes { Passes M.sizes M.front M.labels_left M.ephes_room m.old m.new }
     ensures counts { CountsAt (M.sizes m.old) (M.front m.old) (M.front m.new) table result }
 {
-    m.stands();
+    m.shows_legal();
     let mut count: u32 = 0;
     'buckets: for index in 0..64u16 {
         count += count_bucket(m, rt, table, index);

@@ -3,16 +3,22 @@ ghost use Rattle.std.specs.Prelude.{◌≡◌, ◌+◌, ◌<◌, ◌≤◌, List
 ghost use Rattle.model_core.specs.declared.entry.Entry.{Entry};
 ghost use Rattle.model_core.specs.declared.label.Label as labels;
 ghost use Rattle.weak_laws.specs.Tables.Performing.{refusals, full_of};
+ghost use Rattle.weak_tables.specs.Frames.{Spends};
 ghost use Rattle.weak_tables.specs.Walks.{Filled, Fills};
 ghost use Rattle.weak_tables.specs.Tables.{MakeAnswers};
 ghost use Rattle.weak_tables.specs.Arrays.{ArrayAnswers};
 
-use crate::machine::{Machine, perform};
+use crate::machine::{CELL, EPHE, Machine, perform, perform_plain, store};
 use crate::replies::is_full;
 use crate::taking::clear;
 use model_core::command::Command;
 use model_core::reply::Reply;
 use std::sync::Wait;
+
+// The registers of the array in the making, and of the ephemeron of its next slot.
+const ARRAY: u8 = EPHE;
+
+const SLOT: u8 = CELL;
 
 /// Makes a table, into a register below 8. It binds nothing. Answers its block, or `full` where the allocation was refused:
 /// then the register is as before. One label is left.
@@ -25,7 +31,7 @@ pub fn table_make<M: Machine, R: Wait>(m: &mut M, rt: &R, dst: u8) -> Reply
     ensures refused { refusals (M.front m.new) ≡ refusals (M.front m.old) + full_of result }
     ensures made { MakeAnswers (M.sizes m.old) (M.front m.old) (M.front m.new) dst result }
 {
-    m.stands();
+    m.shows_legal();
     perform(
         m,
         rt,
@@ -42,27 +48,17 @@ pub fn table_make<M: Machine, R: Wait>(m: &mut M, rt: &R, dst: u8) -> Reply
 fn fill<M: Machine, R: Wait>(m: &mut M, rt: &R, slots: u16) -> bool
     requires labels { slots ≤ M.labels_left m.old }
     requires room { slots ≤ M.ephes_room m.old }
-    ensures sizes { M.sizes m.new ≡ M.sizes m.old }
-    ensures labels { M.labels_left m.old ≤ M.labels_left m.new + slots }
-    ensures room { M.ephes_room m.old ≤ M.ephes_room m.new + slots }
+    ensures spends { Spends M.sizes M.labels_left M.ephes_room slots slots m.old m.new }
     ensures refused { refusals (M.front m.new) ≡ refusals (M.front m.old) + cond result 0 1 }
     ensures fills { (first : List Entry) (root : labels.Label) → Filled (M.sizes m.old) first (M.front m.old) root 0 slots → Fills (M.sizes m.old) first (M.front m.new) root slots result }
 {
-    m.stands();
+    m.shows_legal();
     'slots: for index in 0..slots {
-        let ephe = perform(m, rt, Command::Ephe { dst: 9, keys: 1 });
+        let ephe = perform(m, rt, Command::Ephe { dst: SLOT, keys: 1 });
         if is_full(&ephe) {
             return false;
         }
-        let _stored = perform(
-            m,
-            rt,
-            Command::Store {
-                block: 8,
-                index,
-                item: 9,
-            },
-        );
+        let _stored = store(m, rt, ARRAY, index, SLOT);
     }
     true
 }
@@ -75,18 +71,16 @@ pub fn weak_make<M: Machine, R: Wait>(m: &mut M, rt: &R, dst: u8, slots: u16) ->
     requires slots { (1 ≤ slots) × (slots ≤ 1022) }
     requires labels { slots + 1 ≤ M.labels_left m.old }
     requires room { slots ≤ M.ephes_room m.old }
-    ensures sizes { M.sizes m.new ≡ M.sizes m.old }
-    ensures labels { M.labels_left m.old ≤ M.labels_left m.new + (slots + 1) }
-    ensures room { M.ephes_room m.old ≤ M.ephes_room m.new + slots }
+    ensures spends { Spends M.sizes M.labels_left M.ephes_room (slots + 1) slots m.old m.new }
     ensures refused { refusals (M.front m.new) ≡ refusals (M.front m.old) + full_of result }
     ensures made { ArrayAnswers (M.sizes m.old) (M.front m.old) (M.front m.new) dst slots result }
 {
-    m.stands();
+    m.shows_legal();
     let root = perform(
         m,
         rt,
         Command::Alloc {
-            dst: 8,
+            dst: ARRAY,
             tag: 0,
             fields: slots,
         },
@@ -99,7 +93,7 @@ pub fn weak_make<M: Machine, R: Wait>(m: &mut M, rt: &R, dst: u8, slots: u16) ->
         clear(m, rt);
         return Reply::Full;
     }
-    let _moved = perform(m, rt, Command::Copy { dst, src: 8 });
+    let _moved = perform_plain(m, rt, Command::Copy { dst, src: ARRAY });
     clear(m, rt);
     root
 }

@@ -1,16 +1,17 @@
 //! Bindings that are put and read.
-ghost use Rattle.std.specs.Prelude.{◌≡◌, ◌+◌, ◌<◌, ◌≤◌, Bool, cond, IsTrue, List, None};
+ghost use Rattle.std.specs.Prelude.{◌≡◌, ◌+◌, ◌<◌, ◌≤◌, cond};
 ghost use Rattle.model_core.specs.declared.graph.Value.TheVariants.{Block};
-ghost use Rattle.model_core.specs.declared.label.Label as labels;
-ghost use Rattle.weak_laws.specs.Tables.Structures.{Cell, IsTable, bindings, datum_at, is_bucket_full};
 ghost use Rattle.weak_laws.specs.Tables.Performing.{refusals, full_of, writings, is_spared};
-ghost use Rattle.weak_laws.specs.Tables.Stages.{graph_of, held_in};
+ghost use Rattle.weak_laws.specs.Tables.Stages.{held_in};
+ghost use Rattle.weak_tables.specs.Frames.{Keeps, Passes, Spends};
 ghost use Rattle.weak_tables.specs.Held.{HoldsTable};
-ghost use Rattle.weak_tables.specs.Walks.{CellAnswers, LinksCell, Placed};
+ghost use Rattle.weak_tables.specs.Walks.{CellAnswers, GrownAt, LinksCell, PlacedAt};
 ghost use Rattle.weak_tables.specs.Tables.{GetsAt, PutsAt};
 
 use crate::find::Find;
-use crate::machine::{Machine, perform};
+use crate::machine::{
+    CELL, EPHE, LOOKED, Machine, NEXT, OWN, load, perform, perform_between, perform_plain, store,
+};
 use crate::replies::{is_empty, is_full};
 use crate::searching::{bucket_of, look_up, search};
 use crate::taking::clear;
@@ -23,14 +24,12 @@ use std::sync::Wait;
 fn make_cell<M: Machine, R: Wait>(m: &mut M, rt: &R) -> bool
     requires labels { 2 ≤ M.labels_left m.old }
     requires room { 1 ≤ M.ephes_room m.old }
-    ensures sizes { M.sizes m.new ≡ M.sizes m.old }
-    ensures labels { M.labels_left m.old ≤ M.labels_left m.new + 2 }
-    ensures room { M.ephes_room m.old ≤ M.ephes_room m.new + 1 }
+    ensures spends { Spends M.sizes M.labels_left M.ephes_room 2 1 m.old m.new }
     ensures refused { refusals (M.front m.new) ≡ refusals (M.front m.old) + cond result 0 1 }
     ensures written { writings (M.front m.new) ≡ writings (M.front m.old) }
     ensures made { CellAnswers (M.sizes m.old) (M.front m.old) (M.front m.new) result }
 {
-    let ephe = perform(m, rt, Command::Ephe { dst: 8, keys: 1 });
+    let ephe = perform(m, rt, Command::Ephe { dst: EPHE, keys: 1 });
     if is_full(&ephe) {
         return false;
     }
@@ -38,7 +37,7 @@ fn make_cell<M: Machine, R: Wait>(m: &mut M, rt: &R) -> bool
         m,
         rt,
         Command::Alloc {
-            dst: 9,
+            dst: CELL,
             tag: 0,
             fields: 2,
         },
@@ -49,49 +48,13 @@ fn make_cell<M: Machine, R: Wait>(m: &mut M, rt: &R) -> bool
 // Puts the cell in registers 8 and 9 before the others of a bucket.
 fn link_cell<M: Machine, R: Wait>(m: &mut M, rt: &R, table: u8, index: u16)
     requires few { table < 8 }
-    ensures sizes { M.sizes m.new ≡ M.sizes m.old }
-    ensures labels { M.labels_left m.new ≡ M.labels_left m.old }
-    ensures room { M.ephes_room m.old ≤ M.ephes_room m.new }
-    ensures refused { refusals (M.front m.new) ≡ refusals (M.front m.old) }
-    ensures written { writings (M.front m.new) ≡ writings (M.front m.old) }
+    ensures passes { Passes M.sizes M.front M.labels_left M.ephes_room m.old m.new }
     ensures links { LinksCell (M.sizes m.old) (M.front m.old) (M.front m.new) table index }
 {
-    let _first = perform(
-        m,
-        rt,
-        Command::Store {
-            block: 9,
-            index: 0,
-            item: 8,
-        },
-    );
-    let _head = perform(
-        m,
-        rt,
-        Command::Load {
-            dst: 10,
-            src: table,
-            index,
-        },
-    );
-    let _second = perform(
-        m,
-        rt,
-        Command::Store {
-            block: 9,
-            index: 1,
-            item: 10,
-        },
-    );
-    let _linked = perform(
-        m,
-        rt,
-        Command::Store {
-            block: table,
-            index,
-            item: 9,
-        },
-    );
+    let _first = store(m, rt, CELL, OWN, EPHE);
+    let _head = load(m, rt, LOOKED, table, index);
+    let _second = store(m, rt, CELL, NEXT, LOOKED);
+    let _linked = store(m, rt, table, index, CELL);
 }
 
 // Makes a cell without a key, and links it first into the bucket of this one. Where an allocation is refused the table
@@ -101,15 +64,12 @@ fn grow<M: Machine, R: Wait>(m: &mut M, rt: &R, table: u8, label: &Label) -> boo
     requires labels { 2 ≤ M.labels_left m.old }
     requires room { 1 ≤ M.ephes_room m.old }
     requires table { HoldsTable (M.sizes m.old) (M.front m.old) table }
-    ensures sizes { M.sizes m.new ≡ M.sizes m.old }
-    ensures labels { M.labels_left m.old ≤ M.labels_left m.new + 2 }
-    ensures room { M.ephes_room m.old ≤ M.ephes_room m.new + 1 }
+    ensures spends { Spends M.sizes M.labels_left M.ephes_room 2 1 m.old m.new }
     ensures refused { refusals (M.front m.new) ≡ refusals (M.front m.old) + cond result 0 1 }
     ensures written { writings (M.front m.new) ≡ writings (M.front m.old) }
-    ensures placed { (root : labels.Label) (chains : List (List Cell)) → held_in (M.sizes m.old) (M.front m.old) table ≡ Block root → IsTable (graph_of (M.sizes m.old) (M.front m.old)) root chains
-        → datum_at (bindings (graph_of (M.sizes m.old) (M.front m.old)) chains) label.now ≡ None → (full : Bool) → IsTrue full → Placed (M.sizes m.old) (M.front m.old) (M.front m.new) root chains label.now full result }
+    ensures placed { GrownAt (M.sizes m.old) (M.front m.old) (M.front m.new) table label.now result }
 {
-    m.stands();
+    m.shows_legal();
     if !make_cell(m, rt) {
         return false;
     }
@@ -125,13 +85,10 @@ fn place<M: Machine, R: Wait>(m: &mut M, rt: &R, table: u8, key: u8, label: &Lab
     requires room { 1 ≤ M.ephes_room m.old }
     requires key { held_in (M.sizes m.old) (M.front m.old) key ≡ Block label.now }
     requires table { HoldsTable (M.sizes m.old) (M.front m.old) table }
-    ensures sizes { M.sizes m.new ≡ M.sizes m.old }
-    ensures labels { M.labels_left m.old ≤ M.labels_left m.new + 2 }
-    ensures room { M.ephes_room m.old ≤ M.ephes_room m.new + 1 }
+    ensures spends { Spends M.sizes M.labels_left M.ephes_room 2 1 m.old m.new }
     ensures refused { refusals (M.front m.new) ≡ refusals (M.front m.old) + cond result 0 1 }
     ensures written { writings (M.front m.new) ≡ writings (M.front m.old) }
-    ensures placed { (root : labels.Label) (chains : List (List Cell)) → held_in (M.sizes m.old) (M.front m.old) table ≡ Block root → IsTable (graph_of (M.sizes m.old) (M.front m.old)) root chains
-        → Placed (M.sizes m.old) (M.front m.old) (M.front m.new) root chains label.now (is_bucket_full (graph_of (M.sizes m.old) (M.front m.old)) label.now chains) result }
+    ensures placed { PlacedAt (M.sizes m.old) (M.front m.old) (M.front m.new) table label.now result }
 {
     match search(m, rt, table, key, label) {
         Find::Key => true,
@@ -152,14 +109,12 @@ pub fn table_put<M: Machine, R: Wait>(m: &mut M, rt: &R, table: u8, key: u8, ite
     requires labels { 2 ≤ M.labels_left m.old }
     requires room { 1 ≤ M.ephes_room m.old }
     requires table { HoldsTable (M.sizes m.old) (M.front m.old) table }
-    ensures sizes { M.sizes m.new ≡ M.sizes m.old }
-    ensures labels { M.labels_left m.old ≤ M.labels_left m.new + 2 }
-    ensures room { M.ephes_room m.old ≤ M.ephes_room m.new + 1 }
+    ensures spends { Spends M.sizes M.labels_left M.ephes_room 2 1 m.old m.new }
     ensures refused { refusals (M.front m.new) ≡ refusals (M.front m.old) + full_of result }
     ensures written { writings (M.front m.new) ≡ writings (M.front m.old) }
     ensures answer { PutsAt (M.sizes m.old) (M.front m.old) (M.front m.new) table key item result }
 {
-    m.stands();
+    m.shows_legal();
     let Reply::Block(label) = m.show(key) else {
         return Reply::BadType;
     };
@@ -171,12 +126,12 @@ pub fn table_put<M: Machine, R: Wait>(m: &mut M, rt: &R, table: u8, key: u8, ite
         clear(m, rt);
         return Reply::Full;
     }
-    let _datum = perform(m, rt, Command::SetData { ephe: 8, item });
-    let _named = perform(
+    let _datum = perform_between(m, rt, Command::SetData { ephe: EPHE, item });
+    let _named = perform_between(
         m,
         rt,
         Command::SetKey {
-            ephe: 8,
+            ephe: EPHE,
             index: 0,
             item: key,
         },
@@ -191,23 +146,21 @@ pub fn table_put<M: Machine, R: Wait>(m: &mut M, rt: &R, table: u8, key: u8, ite
 pub fn table_get<M: Machine, R: Wait>(m: &mut M, rt: &R, dst: u8, table: u8, key: u8) -> Reply
     requires few { (dst < 8) × (table < 8) × (key < 8) }
     requires table { HoldsTable (M.sizes m.old) (M.front m.old) table }
-    ensures sizes { M.sizes m.new ≡ M.sizes m.old }
-    ensures labels { M.labels_left m.new ≡ M.labels_left m.old }
-    ensures room { M.ephes_room m.old ≤ M.ephes_room m.new }
+    ensures keeps { Keeps M.sizes M.labels_left M.ephes_room m.old m.new }
     ensures refused { refusals (M.front m.new) ≡ refusals (M.front m.old) + full_of result }
     ensures written { writings (M.front m.new) ≤ writings (M.front m.old) + is_spared dst }
     ensures answer { GetsAt (M.sizes m.old) (M.front m.old) (M.front m.new) dst table key result }
 {
-    m.stands();
+    m.shows_legal();
     let Reply::Block(label) = m.show(key) else {
         return Reply::BadType;
     };
     if !look_up(m, rt, table, key, &label) {
-        let _none = perform(m, rt, Command::Forget { dst });
+        let _none = perform_plain(m, rt, Command::Forget { dst });
         clear(m, rt);
         return Reply::Empty;
     }
-    let reply = perform(m, rt, Command::GetData { dst, ephe: 8 });
+    let reply = perform_plain(m, rt, Command::GetData { dst, ephe: EPHE });
     clear(m, rt);
     reply
 }

@@ -2,13 +2,13 @@
 ghost use Rattle.std.specs.Prelude.{◌≡◌, ◌<◌, ◌≤◌, ◌%◌};
 ghost use Rattle.model_core.specs.declared.graph.Value.TheVariants.{Block};
 ghost use Rattle.weak_laws.specs.Tables.Structures.{bucket_count};
-ghost use Rattle.weak_laws.specs.Tables.Performing.{refusals, writings};
 ghost use Rattle.weak_laws.specs.Tables.Stages.{held_in};
+ghost use Rattle.weak_tables.specs.Frames.{Passes};
 ghost use Rattle.weak_tables.specs.Held.{HoldsTable};
 ghost use Rattle.weak_tables.specs.Walks.{KeepsSpare, LooksUp, Searched, passed_all};
 
 use crate::find::Find;
-use crate::machine::{Machine, perform};
+use crate::machine::{CELL, EPHE, LOOKED, Machine, NEXT, OWN, load, perform_between};
 use crate::replies::{is_block, is_empty, is_this};
 use model_core::command::Command;
 use model_core::label::Label;
@@ -34,11 +34,7 @@ fn after_all(spare: bool) -> Find
 
 // Notes the ephemeron of a cell whose key was found empty, if none was noted before: register 8 holds it.
 fn keep_spare<M: Machine, R: Wait>(m: &mut M, rt: &R, found: &Reply, spare: bool) -> bool
-    ensures sizes { M.sizes m.new ≡ M.sizes m.old }
-    ensures labels { M.labels_left m.new ≡ M.labels_left m.old }
-    ensures room { M.ephes_room m.old ≤ M.ephes_room m.new }
-    ensures given { refusals (M.front m.new) ≡ refusals (M.front m.old) }
-    ensures written { writings (M.front m.new) ≡ writings (M.front m.old) }
+    ensures passes { Passes M.sizes M.front M.labels_left M.ephes_room m.old m.new }
     ensures kept { KeepsSpare (M.sizes m.old) (M.front m.old) (M.front m.new) found.now spare result }
 {
     if spare {
@@ -47,15 +43,7 @@ fn keep_spare<M: Machine, R: Wait>(m: &mut M, rt: &R, found: &Reply, spare: bool
     if !is_empty(found) {
         return false;
     }
-    let _spare = perform(
-        m,
-        rt,
-        Command::Load {
-            dst: 8,
-            src: 9,
-            index: 0,
-        },
-    );
+    let _spare = load(m, rt, EPHE, CELL, OWN);
     true
 }
 
@@ -71,68 +59,32 @@ pub(crate) fn search<M: Machine, R: Wait>(
     requires few { (table < 8) × (key < 8) }
     requires key { held_in (M.sizes m.old) (M.front m.old) key ≡ Block label.now }
     requires table { HoldsTable (M.sizes m.old) (M.front m.old) table }
-    ensures sizes { M.sizes m.new ≡ M.sizes m.old }
-    ensures labels { M.labels_left m.new ≡ M.labels_left m.old }
-    ensures room { M.ephes_room m.old ≤ M.ephes_room m.new }
-    ensures given { refusals (M.front m.new) ≡ refusals (M.front m.old) }
-    ensures written { writings (M.front m.new) ≡ writings (M.front m.old) }
+    ensures passes { Passes M.sizes M.front M.labels_left M.ephes_room m.old m.new }
     ensures searched { Searched (M.sizes m.old) (M.front m.old) (M.front m.new) table label.now result }
 {
-    m.stands();
+    m.shows_legal();
     let mut spare = false;
-    let mut at = perform(
-        m,
-        rt,
-        Command::Load {
-            dst: 9,
-            src: table,
-            index: bucket_of(label),
-        },
-    );
+    let mut at = load(m, rt, CELL, table, bucket_of(label));
     'cells: for _ in 0..u32::MAX {
         if !is_block(&at) {
             return after_all(spare);
         }
-        let _ephe = perform(
-            m,
-            rt,
-            Command::Load {
-                dst: 10,
-                src: 9,
-                index: 0,
-            },
-        );
-        let found = perform(
+        let _ephe = load(m, rt, LOOKED, CELL, OWN);
+        let found = perform_between(
             m,
             rt,
             Command::GetKey {
-                dst: 10,
-                ephe: 10,
+                dst: LOOKED,
+                ephe: LOOKED,
                 index: 0,
             },
         );
         if is_this(&found, label) {
-            let _mine = perform(
-                m,
-                rt,
-                Command::Load {
-                    dst: 8,
-                    src: 9,
-                    index: 0,
-                },
-            );
+            let _mine = load(m, rt, EPHE, CELL, OWN);
             return Find::Key;
         }
         spare = keep_spare(m, rt, &found, spare);
-        at = perform(
-            m,
-            rt,
-            Command::Load {
-                dst: 9,
-                src: 9,
-                index: 1,
-            },
-        );
+        at = load(m, rt, CELL, CELL, NEXT);
     }
     unreachable!()
 }
@@ -148,14 +100,10 @@ pub(crate) fn look_up<M: Machine, R: Wait>(
     requires few { (table < 8) × (key < 8) }
     requires key { held_in (M.sizes m.old) (M.front m.old) key ≡ Block label.now }
     requires table { HoldsTable (M.sizes m.old) (M.front m.old) table }
-    ensures sizes { M.sizes m.new ≡ M.sizes m.old }
-    ensures labels { M.labels_left m.new ≡ M.labels_left m.old }
-    ensures room { M.ephes_room m.old ≤ M.ephes_room m.new }
-    ensures given { refusals (M.front m.new) ≡ refusals (M.front m.old) }
-    ensures written { writings (M.front m.new) ≡ writings (M.front m.old) }
+    ensures passes { Passes M.sizes M.front M.labels_left M.ephes_room m.old m.new }
     ensures found { LooksUp (M.sizes m.old) (M.front m.old) (M.front m.new) table label.now result }
 {
-    m.stands();
+    m.shows_legal();
     match search(m, rt, table, key, label) {
         Find::Key => true,
         Find::Spare => false,

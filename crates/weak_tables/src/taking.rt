@@ -2,10 +2,11 @@
 ghost use Rattle.std.specs.Prelude.{◌≡◌, ◌+◌, ◌<◌, ◌≤◌};
 ghost use Rattle.model_core.specs.declared.graph.Value.TheVariants.{Block};
 ghost use Rattle.weak_laws.specs.Tables.Performing.{refusals, full_of, writings};
+ghost use Rattle.weak_tables.specs.Frames.{Keeps, Passes};
 ghost use Rattle.weak_tables.specs.Held.{Cleared, HoldsTable};
 ghost use Rattle.weak_tables.specs.Tables.{TakesAt};
 
-use crate::machine::{Machine, perform};
+use crate::machine::{CELL, EPHE, LOOKED, Machine, perform_between};
 use crate::searching::look_up;
 use model_core::command::Command;
 use model_core::reply::Reply;
@@ -13,17 +14,13 @@ use std::sync::Wait;
 
 // Empties the registers that the calls use between.
 pub(crate) fn clear<M: Machine, R: Wait>(m: &mut M, rt: &R)
-    ensures sizes { M.sizes m.new ≡ M.sizes m.old }
-    ensures labels { M.labels_left m.new ≡ M.labels_left m.old }
-    ensures room { M.ephes_room m.old ≤ M.ephes_room m.new }
-    ensures given { refusals (M.front m.new) ≡ refusals (M.front m.old) }
-    ensures written { writings (M.front m.new) ≡ writings (M.front m.old) }
+    ensures passes { Passes M.sizes M.front M.labels_left M.ephes_room m.old m.new }
     ensures cleared { Cleared (M.sizes m.old) (M.front m.old) (M.front m.new) }
 {
-    m.stands();
-    let _eight = perform(m, rt, Command::Forget { dst: 8 });
-    let _nine = perform(m, rt, Command::Forget { dst: 9 });
-    let _ten = perform(m, rt, Command::Forget { dst: 10 });
+    m.shows_legal();
+    let _eight = perform_between(m, rt, Command::Forget { dst: EPHE });
+    let _nine = perform_between(m, rt, Command::Forget { dst: CELL });
+    let _ten = perform_between(m, rt, Command::Forget { dst: LOOKED });
 }
 
 /// Takes the binding of the key in a register out of the table in another. Answers `type` exactly where the register holds
@@ -33,14 +30,12 @@ pub(crate) fn clear<M: Machine, R: Wait>(m: &mut M, rt: &R)
 pub fn table_take<M: Machine, R: Wait>(m: &mut M, rt: &R, table: u8, key: u8) -> Reply
     requires few { (table < 8) × (key < 8) }
     requires table { HoldsTable (M.sizes m.old) (M.front m.old) table }
-    ensures sizes { M.sizes m.new ≡ M.sizes m.old }
-    ensures labels { M.labels_left m.new ≡ M.labels_left m.old }
-    ensures room { M.ephes_room m.old ≤ M.ephes_room m.new }
+    ensures keeps { Keeps M.sizes M.labels_left M.ephes_room m.old m.new }
     ensures refused { refusals (M.front m.new) ≡ refusals (M.front m.old) + full_of result }
     ensures written { writings (M.front m.new) ≡ writings (M.front m.old) }
     ensures answer { TakesAt (M.sizes m.old) (M.front m.old) (M.front m.new) table key result }
 {
-    m.stands();
+    m.shows_legal();
     let Reply::Block(label) = m.show(key) else {
         return Reply::BadType;
     };
@@ -48,8 +43,15 @@ pub fn table_take<M: Machine, R: Wait>(m: &mut M, rt: &R, table: u8, key: u8) ->
         clear(m, rt);
         return Reply::Empty;
     }
-    let _key = perform(m, rt, Command::UnsetKey { ephe: 8, index: 0 });
-    let _datum = perform(m, rt, Command::UnsetData { ephe: 8 });
+    let _key = perform_between(
+        m,
+        rt,
+        Command::UnsetKey {
+            ephe: EPHE,
+            index: 0,
+        },
+    );
+    let _datum = perform_between(m, rt, Command::UnsetData { ephe: EPHE });
     clear(m, rt);
     Reply::Done
 }

@@ -1,5 +1,5 @@
 -- What the calls on a table of buckets leave, as calls on what keeps bindings.
-use Rattle.std.proofs.Common.{◌≡◌, inl, inr, ⊎_elim, ℕ, zero, suc, ◌+◌, ◌-◌, ◌<◌, ◌≤◌, false, true, IsTrue, List, [], flat_map, Option, Some, None, refl, ap, sym, ◌∙◌, subst, arith}
+use Rattle.std.proofs.Common.{◌≡◌, inl, inr, ⊎_elim, ℕ, zero, suc, ◌+◌, ◌-◌, ◌<◌, ◌≤◌, false, true, List, [], flat_map, Option, Some, None, refl, ap, ◌∙◌, subst, arith}
 use Rattle.model_core.specs.declared.label.Label.{Label}
 use Rattle.model_core.specs.declared.entry.Entry.{Entry}
 use Rattle.model_core.specs.declared.graph.Value.{Value}
@@ -10,17 +10,17 @@ use Rattle.model_core.specs.declared.state.Sizes.{Sizes}
 use Rattle.model_core.specs.Graph.{Graph, has_label, same_label}
 use Rattle.model_core.proofs.Graphs.GraphLemmas.{same_label-true}
 use Rattle.model_core.proofs.Reach.ReachLemmas.{or_cases}
-use Rattle.weak_laws.specs.Tables.Structures.{Cell, bindings, bucket_count, cell_labels, empty_chains, table_labels, IsTable}
+use Rattle.weak_laws.specs.Tables.Structures.{Cell, bindings, bucket_count, cell_labels, empty_chains, table_labels}
 use Rattle.weak_laws.specs.Tables.Thinning.{WasOutside}
-use Rattle.weak_laws.specs.Tables.Stages.{Goes, graph_of, held_in}
+use Rattle.weak_laws.specs.Tables.Stages.{graph_of, held_in}
 use Rattle.weak_laws.proofs.OfTables.ChangeLemmas.{changes_more}
-use Rattle.weak_tables.specs.Held.{AllHave, Has, IsClean, IsTidy, KeepsOthers, Reads}
+use Rattle.weak_tables.specs.Held.{Has, IsClean, IsTidy, KeepsOthers, Reads}
 use Rattle.weak_tables.specs.Tables as tables
 use Rattle.weak_tables.proofs.TidyLemmas.{all_kept, tidy_lasts}
 use Rattle.weak_maps.specs.Lists.Stretches.{IsSettled, KeepsLow}
 use Rattle.table_text.specs.declared.version.Version.TheVariants.{One}
 use Rattle.table_run.specs.Keepers.Keepers.{IsTidyTable}
-use Rattle.table_run.specs.Keepers.Answers.{Counts, Gets, GetAnswers, MakeAnswers, PutAnswers, Stays, TakeAnswers, Writes}
+use Rattle.table_run.specs.Keepers.Answers.{Counts, GetAnswers, MakeAnswers, PutAnswers, Stays, TakeAnswers}
 
 -- registers from 8 on hold nothing after a call, if they held nothing
 settled : (z : Sizes) (old new : List Entry) → ((r : ℕ) → 11 ≤ r → held_in z new r ≡ held_in z old r) → IsClean z new → IsSettled z old new

@@ -2,6 +2,7 @@
 ghost use Rattle.std.specs.Prelude.{◌≡◌, ◌+◌, ◌<◌, ◌≤◌};
 ghost use Rattle.weak_laws.specs.Tables.Performing.{full_of, is_spared, refusals, writings};
 ghost use Rattle.table_text.specs.Machine.Machine.{made_by_put};
+ghost use Rattle.weak_tables.specs.Frames.{Keeps, Passes, Spends};
 ghost use Rattle.table_run.specs.Keepers.Keepers.{HoldsKeeper};
 ghost use Rattle.table_run.specs.Keepers.Answers.{CountsAt, GetsAt, MakeAnswers, PutsAt, SweepAnswers, TakesAt};
 
@@ -35,7 +36,7 @@ pub fn keeper_make<M: Machine, R: Wait>(
     ensures made { MakeAnswers version (M.sizes m.old.machine) (M.front m.old.machine) (M.front m.new.machine)
         dst result }
 {
-    m.machine.stands();
+    m.machine.shows_legal();
     match version {
         Version::One => table_make(&mut m.machine, rt, dst),
         Version::Two => list_make(m, rt, dst),
@@ -57,15 +58,13 @@ pub fn keeper_put<M: Machine, R: Wait>(
     requires labels { made_by_put version ≤ M.labels_left m.old.machine }
     requires room { 1 ≤ M.ephes_room m.old.machine }
     requires keeper { HoldsKeeper version (M.sizes m.old.machine) (M.front m.old.machine) keeper }
-    ensures sizes { M.sizes m.new.machine ≡ M.sizes m.old.machine }
-    ensures labels { M.labels_left m.old.machine ≤ M.labels_left m.new.machine + made_by_put version }
-    ensures room { M.ephes_room m.old.machine ≤ M.ephes_room m.new.machine + 1 }
+    ensures spends { Spends M.sizes M.labels_left M.ephes_room (made_by_put version) 1 m.old.machine m.new.machine }
     ensures refused { refusals (M.front m.new.machine) ≡ refusals (M.front m.old.machine) + full_of result }
     ensures written { writings (M.front m.new.machine) ≡ writings (M.front m.old.machine) }
     ensures answer { PutsAt version (M.sizes m.old.machine) (M.front m.old.machine) (M.front m.new.machine)
         keeper key item result }
 {
-    m.machine.stands();
+    m.machine.shows_legal();
     match version {
         Version::One => table_put(&mut m.machine, rt, keeper, key, item),
         Version::Two => list_put(m, rt, keeper, key, item),
@@ -84,16 +83,14 @@ pub fn keeper_get<M: Machine, R: Wait>(
 ) -> Reply
     requires few { (dst < 8) × (keeper < 8) × (key < 8) }
     requires keeper { HoldsKeeper version (M.sizes m.old.machine) (M.front m.old.machine) keeper }
-    ensures sizes { M.sizes m.new.machine ≡ M.sizes m.old.machine }
-    ensures labels { M.labels_left m.new.machine ≡ M.labels_left m.old.machine }
-    ensures room { M.ephes_room m.old.machine ≤ M.ephes_room m.new.machine }
+    ensures keeps { Keeps M.sizes M.labels_left M.ephes_room m.old.machine m.new.machine }
     ensures refused { refusals (M.front m.new.machine) ≡ refusals (M.front m.old.machine) + full_of result }
     ensures written { writings (M.front m.new.machine) ≤ writings (M.front m.old.machine) +
         (is_spared dst + is_spared dst) }
     ensures answer { GetsAt version (M.sizes m.old.machine) (M.front m.old.machine) (M.front m.new.machine)
         dst keeper key result }
 {
-    m.machine.stands();
+    m.machine.shows_legal();
     match version {
         Version::One => table_get(&mut m.machine, rt, dst, keeper, key),
         Version::Two => list_get(m, rt, dst, keeper, key),
@@ -111,15 +108,13 @@ pub fn keeper_take<M: Machine, R: Wait>(
 ) -> Reply
     requires few { (keeper < 8) × (key < 8) }
     requires keeper { HoldsKeeper version (M.sizes m.old.machine) (M.front m.old.machine) keeper }
-    ensures sizes { M.sizes m.new.machine ≡ M.sizes m.old.machine }
-    ensures labels { M.labels_left m.new.machine ≡ M.labels_left m.old.machine }
-    ensures room { M.ephes_room m.old.machine ≤ M.ephes_room m.new.machine }
+    ensures keeps { Keeps M.sizes M.labels_left M.ephes_room m.old.machine m.new.machine }
     ensures refused { refusals (M.front m.new.machine) ≡ refusals (M.front m.old.machine) + full_of result }
     ensures written { writings (M.front m.new.machine) ≡ writings (M.front m.old.machine) }
     ensures answer { TakesAt version (M.sizes m.old.machine) (M.front m.old.machine) (M.front m.new.machine)
         keeper key result }
 {
-    m.machine.stands();
+    m.machine.shows_legal();
     match version {
         Version::One => table_take(&mut m.machine, rt, keeper, key),
         Version::Two => list_take(m, rt, keeper, key),
@@ -136,15 +131,11 @@ pub fn keeper_count<M: Machine, R: Wait>(
 ) -> u32
     requires few { keeper < 8 }
     requires keeper { HoldsKeeper version (M.sizes m.old.machine) (M.front m.old.machine) keeper }
-    ensures sizes { M.sizes m.new.machine ≡ M.sizes m.old.machine }
-    ensures labels { M.labels_left m.new.machine ≡ M.labels_left m.old.machine }
-    ensures room { M.ephes_room m.old.machine ≤ M.ephes_room m.new.machine }
-    ensures given { refusals (M.front m.new.machine) ≡ refusals (M.front m.old.machine) }
-    ensures written { writings (M.front m.new.machine) ≡ writings (M.front m.old.machine) }
+    ensures passes { Passes M.sizes M.front M.labels_left M.ephes_room m.old.machine m.new.machine }
     ensures counts { CountsAt version (M.sizes m.old.machine) (M.front m.old.machine) (M.front m.new.machine)
         keeper result }
 {
-    m.machine.stands();
+    m.machine.shows_legal();
     match version {
         Version::One => table_count(&mut m.machine, rt, keeper),
         Version::Two => map_count(m, rt, keeper),
@@ -156,15 +147,11 @@ pub fn keeper_count<M: Machine, R: Wait>(
 pub fn keeper_sweep<M: Machine, R: Wait>(version: Version, m: &mut OneDomain<M>, rt: &R, keeper: u8)
     requires few { keeper < 8 }
     requires keeper { HoldsKeeper version (M.sizes m.old.machine) (M.front m.old.machine) keeper }
-    ensures sizes { M.sizes m.new.machine ≡ M.sizes m.old.machine }
-    ensures labels { M.labels_left m.new.machine ≡ M.labels_left m.old.machine }
-    ensures room { M.ephes_room m.old.machine ≤ M.ephes_room m.new.machine }
-    ensures given { refusals (M.front m.new.machine) ≡ refusals (M.front m.old.machine) }
-    ensures written { writings (M.front m.new.machine) ≡ writings (M.front m.old.machine) }
+    ensures passes { Passes M.sizes M.front M.labels_left M.ephes_room m.old.machine m.new.machine }
     ensures sweeps { SweepAnswers version (M.sizes m.old.machine) (M.front m.old.machine) (M.front m.new.machine)
         keeper }
 {
-    m.machine.stands();
+    m.machine.shows_legal();
     match version {
         Version::One => {}
         Version::Two => list_clean(m, rt, keeper),

@@ -28,11 +28,11 @@ impl<M: Machine> MapMachine for OneDomain<M> {
     ghost ephes_room = { λ d. M.ephes_room d.machine };
 
     fn stands(&self) {
-        self.machine.stands();
+        self.machine.shows_legal();
     }
 
     fn domains(&self) -> u32 {
-        self.machine.stands();
+        self.machine.shows_legal();
         1
     }
 

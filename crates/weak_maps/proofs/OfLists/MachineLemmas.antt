@@ -109,10 +109,6 @@ module _ (z : Sizes) (one : z.domains ≡ 1) where
   pub writings_same : (d : ℕ) → d ≡ 0 → (old new : List Entry) → Legal z old → Legal z new → writings_by d new ≡ writings_by d old → writings new ≡ writings old
   writings_same d first old new legal_old legal_new told = let sum = writings_told d first old new legal_old legal_new 0 (omega (arith, told)) in omega (arith, sum)
 
--- a count that a later call leaves
-pub same_count : (f : ℕ → List Entry → ℕ) (d d2 : ℕ) (mid new : List Entry) → d2 ≡ d → f d2 new ≡ f d2 mid → f d new ≡ f d mid
-same_count f d d2 mid new same told = subst (λ (x : ℕ). f x new ≡ f x mid) same told
-
 -- what a put counts, in a heap of one domain
 pub put_refused : (labels left was now : ℕ) (r : Reply) → PutCounts labels left was now r → (r ≡ reply.Full → now ≡ was + 1) → now ≡ was + full_of r
 put_refused labels left was now reply.Done c full = omega (arith, c)

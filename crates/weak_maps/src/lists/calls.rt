@@ -2,11 +2,11 @@
 //! ends with a command, so that no collection is under way behind it.
 ghost use Rattle.std.specs.Prelude.{◌≡◌, ◌↔◌, ◌+◌, ◌<◌, ◌≤◌, true};
 ghost use Rattle.model_core.specs.declared.reply.Reply.TheVariants as variant;
-ghost use Rattle.model_core.specs.History.{IsPrefix};
-ghost use Rattle.weak_laws.specs.Tables.Performing.{full_of, is_spared, refusals, writings};
-ghost use Rattle.weak_maps.specs.Beside.{refusals_by, writings_by};
+ghost use Rattle.weak_laws.specs.Tables.Performing.{is_spared};
 ghost use Rattle.weak_maps.specs.Lists.Stretches.{Forgets, HoldsList};
 ghost use Rattle.weak_maps.specs.Lists.Answers.{ListCleansAt, ListGetsAt, ListMakeAnswers, ListPutsAt, ListTakesAt};
+ghost use Rattle.weak_maps.specs.Frames.{Leaves};
+ghost use Rattle.weak_maps.specs.Lists.Frames.{AllocatesAlone, LeavesAlone, PutsAlone, ReadsAlone};
 
 use crate::cleaning::map_clean;
 use crate::getting::map_get;
@@ -26,13 +26,7 @@ pub(crate) fn is_other_kind(reply: &Reply) -> bool
 
 // Empties register 8 once more, which holds nothing: no collection is under way then.
 pub(crate) fn settle<M: Machine, R: Wait>(m: &mut M, rt: &R)
-    ensures sizes { M.sizes m.new ≡ M.sizes m.old }
-    ensures domain { M.domain m.new ≡ M.domain m.old }
-    ensures heap { M.heap m.new ≡ M.heap m.old }
-    ensures labels { M.labels_left m.new ≡ M.labels_left m.old }
-    ensures room { M.ephes_room m.old ≤ M.ephes_room m.new }
-    ensures given { refusals_by (M.domain m.old) (M.front m.new) ≡ refusals_by (M.domain m.old) (M.front m.old) }
-    ensures written { writings_by (M.domain m.old) (M.front m.new) ≡ writings_by (M.domain m.old) (M.front m.old) }
+    ensures leaves { Leaves M.sizes M.domain M.heap M.front M.labels_left M.ephes_room m.old m.new }
     ensures forgets { Forgets (M.sizes m.old) (M.domain m.old) (M.front m.old) (M.front m.new) }
 {
     let _eight = perform(m, rt, Command::Forget { dst: 8 });
@@ -48,23 +42,17 @@ pub fn list_put<M: Machine, R: Wait>(m: &mut M, rt: &R, map: u8, key: u8, item: 
     requires room { 1 ≤ M.ephes_room m.old }
     requires alone { (M.sizes m.old).domains ≡ 1 }
     requires list { HoldsList (M.sizes m.old) (M.front m.old) map }
-    ensures sizes { M.sizes m.new ≡ M.sizes m.old }
-    ensures domain { M.domain m.new ≡ M.domain m.old }
-    ensures heap { M.heap m.new ≡ M.heap m.old }
-    ensures labels { M.labels_left m.old ≤ M.labels_left m.new + 7 }
-    ensures room { M.ephes_room m.old ≤ M.ephes_room m.new + 1 }
-    ensures refused { refusals (M.front m.new) ≡ refusals (M.front m.old) + full_of result }
-    ensures written { writings (M.front m.new) ≡ writings (M.front m.old) }
+    ensures puts { PutsAlone M.sizes M.domain M.heap M.front M.labels_left M.ephes_room m.old m.new result }
     ensures answer { ListPutsAt (M.sizes m.old) (M.front m.old) (M.front m.new) map key item result }
 {
-    m.stands();
+    m.shows_legal();
     let reply = map_put(m, rt, map, key, item);
-    m.stands();
+    m.shows_legal();
     if is_other_kind(&reply) {
         return reply;
     }
     settle(m, rt);
-    m.stands();
+    m.shows_legal();
     reply
 }
 
@@ -75,23 +63,18 @@ pub fn list_get<M: Machine, R: Wait>(m: &mut M, rt: &R, dst: u8, map: u8, key: u
     requires few { (dst < 8) × (map < 8) × (key < 8) }
     requires alone { (M.sizes m.old).domains ≡ 1 }
     requires list { HoldsList (M.sizes m.old) (M.front m.old) map }
-    ensures sizes { M.sizes m.new ≡ M.sizes m.old }
-    ensures domain { M.domain m.new ≡ M.domain m.old }
-    ensures heap { M.heap m.new ≡ M.heap m.old }
-    ensures labels { M.labels_left m.new ≡ M.labels_left m.old }
-    ensures room { M.ephes_room m.old ≤ M.ephes_room m.new }
-    ensures given { refusals (M.front m.new) ≡ refusals (M.front m.old) }
-    ensures written { writings (M.front m.new) ≤ writings (M.front m.old) + (is_spared dst + is_spared dst) }
+    ensures reads { ReadsAlone M.sizes M.domain M.heap M.front M.labels_left M.ephes_room m.old m.new
+        (is_spared dst + is_spared dst) }
     ensures answer { ListGetsAt (M.sizes m.old) (M.front m.old) (M.front m.new) dst map key result }
 {
-    m.stands();
+    m.shows_legal();
     let reply = map_get(m, rt, dst, map, key);
-    m.stands();
+    m.shows_legal();
     if is_other_kind(&reply) {
         return reply;
     }
     settle(m, rt);
-    m.stands();
+    m.shows_legal();
     reply
 }
 
@@ -103,23 +86,17 @@ pub fn list_take<M: Machine, R: Wait>(m: &mut M, rt: &R, map: u8, key: u8) -> Re
     requires few { (map < 8) × (key < 8) }
     requires alone { (M.sizes m.old).domains ≡ 1 }
     requires list { HoldsList (M.sizes m.old) (M.front m.old) map }
-    ensures sizes { M.sizes m.new ≡ M.sizes m.old }
-    ensures domain { M.domain m.new ≡ M.domain m.old }
-    ensures heap { M.heap m.new ≡ M.heap m.old }
-    ensures labels { M.labels_left m.new ≡ M.labels_left m.old }
-    ensures room { M.ephes_room m.old ≤ M.ephes_room m.new }
-    ensures given { refusals (M.front m.new) ≡ refusals (M.front m.old) }
-    ensures written { writings (M.front m.new) ≡ writings (M.front m.old) }
+    ensures leaves { LeavesAlone M.sizes M.domain M.heap M.front M.labels_left M.ephes_room m.old m.new }
     ensures answer { ListTakesAt (M.sizes m.old) (M.front m.old) (M.front m.new) map key result }
 {
-    m.stands();
+    m.shows_legal();
     let reply = map_take(m, rt, map, key);
-    m.stands();
+    m.shows_legal();
     if is_other_kind(&reply) {
         return reply;
     }
     settle(m, rt);
-    m.stands();
+    m.shows_legal();
     reply
 }
 
@@ -130,20 +107,14 @@ pub fn list_clean<M: Machine, R: Wait>(m: &mut M, rt: &R, map: u8)
     requires few { map < 8 }
     requires alone { (M.sizes m.old).domains ≡ 1 }
     requires list { HoldsList (M.sizes m.old) (M.front m.old) map }
-    ensures sizes { M.sizes m.new ≡ M.sizes m.old }
-    ensures domain { M.domain m.new ≡ M.domain m.old }
-    ensures heap { M.heap m.new ≡ M.heap m.old }
-    ensures labels { M.labels_left m.new ≡ M.labels_left m.old }
-    ensures room { M.ephes_room m.old ≤ M.ephes_room m.new }
-    ensures given { refusals (M.front m.new) ≡ refusals (M.front m.old) }
-    ensures written { writings (M.front m.new) ≡ writings (M.front m.old) }
+    ensures leaves { LeavesAlone M.sizes M.domain M.heap M.front M.labels_left M.ephes_room m.old m.new }
     ensures cleans { ListCleansAt (M.sizes m.old) (M.front m.old) (M.front m.new) map }
 {
-    m.stands();
+    m.shows_legal();
     let _empty = map_clean(m, rt, map);
-    m.stands();
+    m.shows_legal();
     settle(m, rt);
-    m.stands();
+    m.shows_legal();
 }
 
 /// Makes a map, into a register. It binds nothing. Answers its block, or `full` where the allocation was refused: then all
@@ -152,16 +123,11 @@ pub fn list_make<M: Machine, R: Wait>(m: &mut M, rt: &R, dst: u8) -> Reply
     requires few { dst < 8 }
     requires labels { 1 ≤ M.labels_left m.old }
     requires alone { (M.sizes m.old).domains ≡ 1 }
-    ensures sizes { M.sizes m.new ≡ M.sizes m.old }
-    ensures domain { M.domain m.new ≡ M.domain m.old }
-    ensures heap { M.heap m.new ≡ M.heap m.old }
-    ensures labels { M.labels_left m.old + full_of result ≡ M.labels_left m.new + 1 }
-    ensures room { M.ephes_room m.old ≤ M.ephes_room m.new }
-    ensures refused { refusals (M.front m.new) ≡ refusals (M.front m.old) + full_of result }
-    ensures written { writings (M.front m.new) ≡ writings (M.front m.old) + is_spared dst }
+    ensures allocates { AllocatesAlone M.sizes M.domain M.heap M.front M.labels_left M.ephes_room m.old m.new
+        dst result }
     ensures made { ListMakeAnswers (M.sizes m.old) (M.front m.old) (M.front m.new) dst result }
 {
-    m.stands();
+    m.shows_legal();
     let made = perform(
         m,
         rt,
@@ -171,6 +137,6 @@ pub fn list_make<M: Machine, R: Wait>(m: &mut M, rt: &R, dst: u8) -> Reply
             fields: 512,
         },
     );
-    m.stands();
+    m.shows_legal();
     made
 }

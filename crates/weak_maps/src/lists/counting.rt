@@ -1,12 +1,11 @@
 //! How many bindings a map has.
 ghost use Rattle.std.specs.Prelude.{◌≡◌, ◌-◌, ◌<◌, ◌≤◌};
-ghost use Rattle.model_core.specs.History.{IsPrefix};
-ghost use Rattle.weak_laws.specs.Tables.Performing.{refusals, writings};
-ghost use Rattle.weak_maps.specs.Beside.{refusals_by, writings_by};
 ghost use Rattle.weak_maps.specs.Cleans.{width_of};
 ghost use Rattle.weak_maps.specs.Lists.Stretches.{HoldsList};
 ghost use Rattle.weak_maps.specs.Lists.Counts.{CountsBlock, CountsField, ForgetsUsed};
 ghost use Rattle.weak_maps.specs.Lists.Answers.{ListCountsAt};
+ghost use Rattle.weak_maps.specs.Frames.{Leaves};
+ghost use Rattle.weak_maps.specs.Lists.Frames.{LeavesAlone};
 
 use crate::lists::calls::{is_other_kind, settle};
 use crate::machine::{Machine, perform};
@@ -26,17 +25,10 @@ fn width_of(left: u8) -> u16
 fn count_field<M: Machine, R: Wait>(m: &mut M, rt: &R, block: u8, left: u8, index: u16) -> u32
     requires few { (left ≤ 6) × (block < 14 - left) }
     requires alone { (M.sizes m.old).domains ≡ 1 }
-    ensures sizes { M.sizes m.new ≡ M.sizes m.old }
-    ensures domain { M.domain m.new ≡ M.domain m.old }
-    ensures heap { M.heap m.new ≡ M.heap m.old }
-    ensures grows { IsPrefix (M.front m.old) (M.front m.new) }
-    ensures labels { M.labels_left m.new ≡ M.labels_left m.old }
-    ensures room { M.ephes_room m.old ≤ M.ephes_room m.new }
-    ensures given { refusals_by (M.domain m.old) (M.front m.new) ≡ refusals_by (M.domain m.old) (M.front m.old) }
-    ensures written { writings_by (M.domain m.old) (M.front m.new) ≡ writings_by (M.domain m.old) (M.front m.old) }
+    ensures leaves { Leaves M.sizes M.domain M.heap M.front M.labels_left M.ephes_room m.old m.new }
     ensures counted { CountsField (M.sizes m.old) (M.front m.old) (M.front m.new) block left index result }
 {
-    m.stands();
+    m.shows_legal();
     let value = 14 - left;
     let at = perform(
         m,
@@ -64,7 +56,7 @@ fn count_field<M: Machine, R: Wait>(m: &mut M, rt: &R, block: u8, left: u8, inde
             return 0;
         }
         let count = count_block(m, rt, value, left - 1);
-        m.stands();
+        m.shows_legal();
         return count;
     }
     if is_empty(&key) {
@@ -78,21 +70,14 @@ fn count_field<M: Machine, R: Wait>(m: &mut M, rt: &R, block: u8, left: u8, inde
 fn count_block<M: Machine, R: Wait>(m: &mut M, rt: &R, block: u8, left: u8) -> u32
     requires few { (left ≤ 6) × (block < 14 - left) }
     requires alone { (M.sizes m.old).domains ≡ 1 }
-    ensures sizes { M.sizes m.new ≡ M.sizes m.old }
-    ensures domain { M.domain m.new ≡ M.domain m.old }
-    ensures heap { M.heap m.new ≡ M.heap m.old }
-    ensures grows { IsPrefix (M.front m.old) (M.front m.new) }
-    ensures labels { M.labels_left m.new ≡ M.labels_left m.old }
-    ensures room { M.ephes_room m.old ≤ M.ephes_room m.new }
-    ensures given { refusals_by (M.domain m.old) (M.front m.new) ≡ refusals_by (M.domain m.old) (M.front m.old) }
-    ensures written { writings_by (M.domain m.old) (M.front m.new) ≡ writings_by (M.domain m.old) (M.front m.old) }
+    ensures leaves { Leaves M.sizes M.domain M.heap M.front M.labels_left M.ephes_room m.old m.new }
     ensures counted { CountsBlock (M.sizes m.old) (M.front m.old) (M.front m.new) block left (width_of left) result }
 {
-    m.stands();
+    m.shows_legal();
     let mut count: u32 = 0;
     'fields: for index in 0..width_of(left) {
         let more = count_field(m, rt, block, left, index);
-        m.stands();
+        m.shows_legal();
         count = count.saturating_add(more);
     }
     count
@@ -101,17 +86,10 @@ fn count_block<M: Machine, R: Wait>(m: &mut M, rt: &R, block: u8, left: u8) -> u
 // Empties registers 8 to 15.
 fn forget_used<M: Machine, R: Wait>(m: &mut M, rt: &R)
     requires alone { (M.sizes m.old).domains ≡ 1 }
-    ensures sizes { M.sizes m.new ≡ M.sizes m.old }
-    ensures domain { M.domain m.new ≡ M.domain m.old }
-    ensures heap { M.heap m.new ≡ M.heap m.old }
-    ensures grows { IsPrefix (M.front m.old) (M.front m.new) }
-    ensures labels { M.labels_left m.new ≡ M.labels_left m.old }
-    ensures room { M.ephes_room m.old ≤ M.ephes_room m.new }
-    ensures given { refusals_by (M.domain m.old) (M.front m.new) ≡ refusals_by (M.domain m.old) (M.front m.old) }
-    ensures written { writings_by (M.domain m.old) (M.front m.new) ≡ writings_by (M.domain m.old) (M.front m.old) }
+    ensures leaves { Leaves M.sizes M.domain M.heap M.front M.labels_left M.ephes_room m.old m.new }
     ensures forgot { ForgetsUsed (M.sizes m.old) (M.front m.old) (M.front m.new) 16 }
 {
-    m.stands();
+    m.shows_legal();
     'registers: for dst in 8..16u8 {
         let _empty = perform(m, rt, Command::Forget { dst });
     }
@@ -124,21 +102,15 @@ pub fn map_count<M: Machine, R: Wait>(m: &mut M, rt: &R, map: u8) -> u32
     requires few { map < 8 }
     requires alone { (M.sizes m.old).domains ≡ 1 }
     requires list { HoldsList (M.sizes m.old) (M.front m.old) map }
-    ensures sizes { M.sizes m.new ≡ M.sizes m.old }
-    ensures domain { M.domain m.new ≡ M.domain m.old }
-    ensures heap { M.heap m.new ≡ M.heap m.old }
-    ensures labels { M.labels_left m.new ≡ M.labels_left m.old }
-    ensures room { M.ephes_room m.old ≤ M.ephes_room m.new }
-    ensures given { refusals (M.front m.new) ≡ refusals (M.front m.old) }
-    ensures written { writings (M.front m.new) ≡ writings (M.front m.old) }
+    ensures leaves { LeavesAlone M.sizes M.domain M.heap M.front M.labels_left M.ephes_room m.old m.new }
     ensures counts { ListCountsAt (M.sizes m.old) (M.front m.old) (M.front m.new) map result }
 {
-    m.stands();
+    m.shows_legal();
     let count = count_block(m, rt, map, 6);
-    m.stands();
+    m.shows_legal();
     forget_used(m, rt);
-    m.stands();
+    m.shows_legal();
     settle(m, rt);
-    m.stands();
+    m.shows_legal();
     count
 }

@@ -1,10 +1,9 @@
 //! Maps that are swept while other domains use them.
 ghost use Rattle.std.specs.Prelude.{◌≡◌, ◌-◌, ◌<◌, ◌≤◌, true, ◌↔◌};
-ghost use Rattle.model_core.specs.History.{IsPrefix};
 ghost use Rattle.weak_maps.specs.Cleans.{width_of};
 ghost use Rattle.weak_maps.specs.Sweeps.Sweeps.{EmptiedHigh, Exchanged, Peeks, Settled, SweepReturns, SweepsBlock, SweepsField};
 ghost use Rattle.weak_maps.specs.declared.sweeps.sweeping.Held.TheVariants.{Dead, Inner};
-ghost use Rattle.weak_maps.specs.Sweeps.Counts.{CountsNone};
+ghost use Rattle.weak_maps.specs.Frames.{Leaves};
 
 use crate::machine::{Machine, perform};
 use crate::replies::{is_block, is_empty};
@@ -49,13 +48,7 @@ fn width_below(left: u8) -> u16
 // Reads a field of the block in a register into another. Register 15 holds the key of a leaf that it met.
 fn peek<M: Machine, R: Wait>(m: &mut M, rt: &R, block: u8, value: u8, index: u16) -> Held
     requires few { (8 ≤ value) × (value < 15) × (block < value) }
-    ensures sizes { M.sizes m.new ≡ M.sizes m.old }
-    ensures domain { M.domain m.new ≡ M.domain m.old }
-    ensures heap { M.heap m.new ≡ M.heap m.old }
-    ensures grows { IsPrefix (M.front m.old) (M.front m.new) }
-    ensures labels { M.labels_left m.new ≡ M.labels_left m.old }
-    ensures room { M.ephes_room m.old ≤ M.ephes_room m.new }
-    ensures counts { CountsNone (M.domain m.old) (M.front m.old) (M.front m.new) }
+    ensures leaves { Leaves M.sizes M.domain M.heap M.front M.labels_left M.ephes_room m.old m.new }
     ensures peeked { Peeks (M.sizes m.old) (M.domain m.old) (M.front m.old) (M.front m.new) block value index result }
 {
     let at = perform(
@@ -89,13 +82,7 @@ fn peek<M: Machine, R: Wait>(m: &mut M, rt: &R, block: u8, value: u8, index: u16
 // Puts 0 into a field of the block in a register, where it holds what another register holds. Tells whether it did.
 fn exchange<M: Machine, R: Wait>(m: &mut M, rt: &R, block: u8, value: u8, index: u16) -> bool
     requires few { (8 ≤ value) × (value < 15) × (block < value) }
-    ensures sizes { M.sizes m.new ≡ M.sizes m.old }
-    ensures domain { M.domain m.new ≡ M.domain m.old }
-    ensures heap { M.heap m.new ≡ M.heap m.old }
-    ensures grows { IsPrefix (M.front m.old) (M.front m.new) }
-    ensures labels { M.labels_left m.new ≡ M.labels_left m.old }
-    ensures room { M.ephes_room m.old ≤ M.ephes_room m.new }
-    ensures counts { CountsNone (M.domain m.old) (M.front m.old) (M.front m.new) }
+    ensures leaves { Leaves M.sizes M.domain M.heap M.front M.labels_left M.ephes_room m.old m.new }
     ensures exchanged { Exchanged (M.sizes m.old) (M.domain m.old) (M.front m.old) (M.front m.new) block value index result }
 {
     let _zero = perform(m, rt, Command::PutInt { dst: 15, value: 0 });
@@ -117,16 +104,10 @@ fn exchange<M: Machine, R: Wait>(m: &mut M, rt: &R, block: u8, value: u8, index:
 // that was dead before.
 fn settle<M: Machine, R: Wait>(m: &mut M, rt: &R, block: u8, left: u8, index: u16) -> bool
     requires few { (left ≤ 6) × (block < 14 - left) }
-    ensures sizes { M.sizes m.new ≡ M.sizes m.old }
-    ensures domain { M.domain m.new ≡ M.domain m.old }
-    ensures heap { M.heap m.new ≡ M.heap m.old }
-    ensures grows { IsPrefix (M.front m.old) (M.front m.new) }
-    ensures labels { M.labels_left m.new ≡ M.labels_left m.old }
-    ensures room { M.ephes_room m.old ≤ M.ephes_room m.new }
-    ensures counts { CountsNone (M.domain m.old) (M.front m.old) (M.front m.new) }
+    ensures leaves { Leaves M.sizes M.domain M.heap M.front M.labels_left M.ephes_room m.old m.new }
     ensures settled { Settled (M.sizes m.old) (M.domain m.old) (M.front m.old) (M.front m.new) block left index result }
 {
-    m.stands();
+    m.shows_legal();
     let value = 14 - left;
     let held = peek(m, rt, block, value, index);
     if !is_dead(held) {
@@ -144,13 +125,7 @@ fn settle<M: Machine, R: Wait>(m: &mut M, rt: &R, block: u8, left: u8, index: u1
 #[cycle(sweeping)]
 fn sweep_field<M: Machine, R: Wait>(m: &mut M, rt: &R, block: u8, left: u8, index: u16)
     requires few { (left ≤ 6) × (block < 14 - left) }
-    ensures sizes { M.sizes m.new ≡ M.sizes m.old }
-    ensures domain { M.domain m.new ≡ M.domain m.old }
-    ensures heap { M.heap m.new ≡ M.heap m.old }
-    ensures grows { IsPrefix (M.front m.old) (M.front m.new) }
-    ensures labels { M.labels_left m.new ≡ M.labels_left m.old }
-    ensures room { M.ephes_room m.old ≤ M.ephes_room m.new }
-    ensures counts { CountsNone (M.domain m.old) (M.front m.old) (M.front m.new) }
+    ensures leaves { Leaves M.sizes M.domain M.heap M.front M.labels_left M.ephes_room m.old m.new }
     ensures swept { SweepsField (M.sizes m.old) (M.domain m.old) (M.front m.old) (M.front m.new) block left index }
 {
     let inner = settle(m, rt, block, left, index);
@@ -167,16 +142,10 @@ fn sweep_field<M: Machine, R: Wait>(m: &mut M, rt: &R, block: u8, left: u8, inde
 #[cycle(sweeping)]
 fn sweep_block<M: Machine, R: Wait>(m: &mut M, rt: &R, block: u8, left: u8)
     requires few { (left ≤ 6) × (block < 14 - left) }
-    ensures sizes { M.sizes m.new ≡ M.sizes m.old }
-    ensures domain { M.domain m.new ≡ M.domain m.old }
-    ensures heap { M.heap m.new ≡ M.heap m.old }
-    ensures grows { IsPrefix (M.front m.old) (M.front m.new) }
-    ensures labels { M.labels_left m.new ≡ M.labels_left m.old }
-    ensures room { M.ephes_room m.old ≤ M.ephes_room m.new }
-    ensures counts { CountsNone (M.domain m.old) (M.front m.old) (M.front m.new) }
+    ensures leaves { Leaves M.sizes M.domain M.heap M.front M.labels_left M.ephes_room m.old m.new }
     ensures swept { SweepsBlock (M.sizes m.old) (M.domain m.old) (M.front m.old) (M.front m.new) block left (width_of left) }
 {
-    m.stands();
+    m.shows_legal();
     'fields: for index in 0..width_below(left) {
         sweep_field(m, rt, block, left, index);
     }
@@ -184,16 +153,10 @@ fn sweep_block<M: Machine, R: Wait>(m: &mut M, rt: &R, block: u8, left: u8)
 
 // Empties registers 8 to 15.
 fn forget_high<M: Machine, R: Wait>(m: &mut M, rt: &R)
-    ensures sizes { M.sizes m.new ≡ M.sizes m.old }
-    ensures domain { M.domain m.new ≡ M.domain m.old }
-    ensures heap { M.heap m.new ≡ M.heap m.old }
-    ensures grows { IsPrefix (M.front m.old) (M.front m.new) }
-    ensures labels { M.labels_left m.new ≡ M.labels_left m.old }
-    ensures room { M.ephes_room m.old ≤ M.ephes_room m.new }
-    ensures counts { CountsNone (M.domain m.old) (M.front m.old) (M.front m.new) }
+    ensures leaves { Leaves M.sizes M.domain M.heap M.front M.labels_left M.ephes_room m.old m.new }
     ensures forgot { EmptiedHigh (M.sizes m.old) (M.domain m.old) (M.front m.old) (M.front m.new) 16 }
 {
-    m.stands();
+    m.shows_legal();
     'registers: for dst in 8..16u8 {
         let _empty = perform(m, rt, Command::Forget { dst });
     }
@@ -205,16 +168,10 @@ fn forget_high<M: Machine, R: Wait>(m: &mut M, rt: &R)
 /// commands at most. Registers are below 8. Registers 8 to 15 hold nothing afterwards.
 pub fn map_sweep<M: Machine, R: Wait>(m: &mut M, rt: &R, map: u8)
     requires few { map < 8 }
-    ensures sizes { M.sizes m.new ≡ M.sizes m.old }
-    ensures domain { M.domain m.new ≡ M.domain m.old }
-    ensures heap { M.heap m.new ≡ M.heap m.old }
-    ensures grows { IsPrefix (M.front m.old) (M.front m.new) }
-    ensures labels { M.labels_left m.new ≡ M.labels_left m.old }
-    ensures room { M.ephes_room m.old ≤ M.ephes_room m.new }
-    ensures counts { CountsNone (M.domain m.old) (M.front m.old) (M.front m.new) }
+    ensures leaves { Leaves M.sizes M.domain M.heap M.front M.labels_left M.ephes_room m.old m.new }
     ensures swept { SweepReturns (M.sizes m.old) (M.domain m.old) (M.front m.old) (M.front m.new) map }
 {
-    m.stands();
+    m.shows_legal();
     sweep_block(m, rt, map, 6);
     forget_high(m, rt);
 }

@@ -9,4 +9,4 @@ pub returns-clause-runs : goal.returns-clause-runs
 returns-clause-runs g c =
     let z : Sizes = g.M.Machine.sizes c.args.m.now.machine in
     let old : List Entry = g.M.Machine.front c.args.m.now.machine in
-    λ p s before x few. counted c.args.version z c.stands.ensures.limits old (g.M.Machine.front c.keeper_count.new.m.machine) c.keeper_count.result c.keeper_count.ensures.written c.keeper_count.ensures.given c.keeper_count.ensures.counts p s (before ++ line_of.Count ∷ []) x
+    λ p s before x few. counted c.args.version z c.shows_legal.ensures.limits old (g.M.Machine.front c.keeper_count.new.m.machine) c.keeper_count.result c.keeper_count.ensures.passes.written c.keeper_count.ensures.passes.given c.keeper_count.ensures.counts p s (before ++ line_of.Count ∷ []) x

@@ -13,4 +13,4 @@ returns-clause-runs g c =
     let old : List Entry = g.M.Machine.front c.args.m.now.machine in
     let new : List Entry = g.M.Machine.front c.keeper_get-reply.new.m.machine in
     λ p s before x few. subst (λ (a : LineReply). LineDone c.args.version z p (before ++ line_of.Get c.args.reg ∷ []) (line_of.Get c.args.reg) s old a new) (sym c.said.ensures)
-    (got c.args.version z c.stands.ensures.limits old new c.args.reg c.keeper_get-reply.result c.requires.register.0 c.requires.register.1 c.keeper_get-reply.ensures.written c.keeper_get-reply.ensures.refused c.keeper_get-reply.ensures.answer p s (before ++ line_of.Get c.args.reg ∷ []) x)
+    (got c.args.version z c.shows_legal.ensures.limits old new c.args.reg c.keeper_get-reply.result c.requires.register.0 c.requires.register.1 c.keeper_get-reply.ensures.written c.keeper_get-reply.ensures.refused c.keeper_get-reply.ensures.answer p s (before ++ line_of.Get c.args.reg ∷ []) x)

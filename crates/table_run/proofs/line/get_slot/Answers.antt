@@ -22,5 +22,5 @@ returns-clause-runs g c =
     let answer : (root : Label) (slots : List Label) → held_in z old 7 ≡ Block root → IsWeakArray (graph_of z old) root slots → SlotAnswers z old mid root slots 0 c.args.slot (slice_get slots c.args.slot) c.weak_get-reply.result =
     subst (λ (i : ℕ). (root : Label) (slots : List Label) → held_in z old 7 ≡ Block root → IsWeakArray (graph_of z old) root slots → SlotAnswers z old mid root slots 0 i (slice_get slots i) c.weak_get-reply.result) c.from.ensures c.weak_get-reply.ensures.answer in
     λ p s before x few. subst (λ (a : LineReply). LineDone c.args.version z p (before ++ line_of.GetWeak c.args.dst c.args.slot ∷ []) (line_of.GetWeak c.args.dst c.args.slot) s old a new) (sym c.said.ensures)
-    (slot_got c.args.version z c.stands.ensures.limits old mid new c.args.dst c.args.slot c.weak_get-reply.result c.perform-copied.result c.requires.slot c.requires.register.0 c.requires.register.1 c.weak_get-reply.ensures.written c.weak_get-reply.ensures.refused
-    (at_sizes z _ _ _ _ _ c.weak_get-reply.ensures.sizes c.perform-copied.ensures.performed) answer p s (before ++ line_of.GetWeak c.args.dst c.args.slot ∷ []) x)
+    (slot_got c.args.version z c.shows_legal.ensures.limits old mid new c.args.dst c.args.slot c.weak_get-reply.result c.perform-copied.result c.requires.slot c.requires.register.0 c.requires.register.1 c.weak_get-reply.ensures.written c.weak_get-reply.ensures.refused
+    (at_sizes z _ _ _ _ _ c.weak_get-reply.ensures.keeps.sizes c.perform-copied.ensures.performed) answer p s (before ++ line_of.GetWeak c.args.dst c.args.slot ∷ []) x)

@@ -22,4 +22,4 @@ returns-clause-runs g c =
     subst (λ (i : ℕ). (root : Label) (slots : List Label) → held_in z old 7 ≡ Block root → IsWeakArray (graph_of z old) root slots → SetAnswers z old new root slots i (slice_get slots i) (label_of (held_in z old c.args.reg)) c.weak_set-reply.result)
     c.from.ensures c.weak_set-reply.ensures.answer in
     λ p s before x few. subst (λ (a : LineReply). LineDone c.args.version z p (before ++ line_of.SetWeak c.args.slot c.args.reg ∷ []) (line_of.SetWeak c.args.slot c.args.reg) s old a new) (sym c.said.ensures)
-    (slot_set c.args.version z c.stands.ensures.limits old new c.args.slot c.args.reg c.weak_set-reply.result c.requires.slot c.requires.register.0 c.requires.register.1 c.weak_set-reply.ensures.written c.weak_set-reply.ensures.refused answer p s (before ++ line_of.SetWeak c.args.slot c.args.reg ∷ []) x)
+    (slot_set c.args.version z c.shows_legal.ensures.limits old new c.args.slot c.args.reg c.weak_set-reply.result c.requires.slot c.requires.register.0 c.requires.register.1 c.weak_set-reply.ensures.written c.weak_set-reply.ensures.refused answer p s (before ++ line_of.SetWeak c.args.slot c.args.reg ∷ []) x)

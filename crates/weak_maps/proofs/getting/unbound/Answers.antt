@@ -1,24 +1,18 @@
-use Rattle.std.proofs.Common.{ℕ, arith}
+use Rattle.std.proofs.Common.{ℕ, refl, arith}
 use Rattle.model_core.specs.declared.state.Sizes.{Sizes}
-use Rattle.weak_laws.proofs.OfMaps.FrontLemmas.{prefix_trans}
-use Rattle.weak_maps.specs.Beside.{refusals_by, writings_by}
 use Rattle.weak_maps.proofs.MachineLemmas.{at_machine, counted_by}
+use Rattle.weak_maps.proofs.FrameLemmas.{reads_then, spends_none, spends_reads}
+use Rattle.weak_maps.specs.Beside.{writings_by}
 use Rattle.weak_maps.proofs.getting.unbound.Goals as goal
 
-pub returns-clause-given : goal.returns-clause-given
-returns-clause-given g c =
-    let d : ℕ = g.M.Machine.domain c.args.m.now in
-    let f1 = c.perform-answer.ensures.refused in
-    let g1 = c.perform-answer.ensures.given in
-    let f2 = counted_by refusals_by d _ _ _ _ c.perform-answer.ensures.domain c.perform-leaf.ensures.refused in
-    let g2 = c.perform-leaf.ensures.given in
-    omega (arith, f1, g1, f2, g2)
+pub returns-clause-reads : goal.returns-clause-reads
+returns-clause-reads g c = reads_then (spends_reads refl c.perform-answer.ensures.spends) (spends_none refl c.perform-leaf.ensures.spends)
 
 pub returns-clause-written : goal.returns-clause-written
 returns-clause-written g c =
     let d : ℕ = g.M.Machine.domain c.args.m.now in
-    let w1 = c.perform-answer.ensures.written in
-    let w2 = counted_by writings_by d _ _ _ _ c.perform-answer.ensures.domain c.perform-leaf.ensures.written in
+    let w1 = c.perform-answer.ensures.spends.written in
+    let w2 = counted_by writings_by d _ _ _ _ c.perform-answer.ensures.spends.stays.domain c.perform-leaf.ensures.spends.written in
     omega (arith, w1, w2)
 
 pub returns-clause-emptied : goal.returns-clause-emptied
@@ -29,8 +23,5 @@ returns-clause-emptied g c =
       first = c.perform-answer.result;
       second = c.perform-leaf.result;
       empties = c.perform-answer.ensures.performed;
-      clears = at_machine z _ d _ _ _ _ _ c.perform-answer.ensures.sizes c.perform-answer.ensures.domain c.perform-leaf.ensures.performed;
+      clears = at_machine z _ d _ _ _ _ _ c.perform-answer.ensures.spends.stays.sizes c.perform-answer.ensures.spends.stays.domain c.perform-leaf.ensures.performed;
     }
-
-pub returns-clause-grows : goal.returns-clause-grows
-returns-clause-grows g c = prefix_trans _ _ _ c.perform-answer.ensures.grows c.perform-leaf.ensures.grows

@@ -1,26 +1,20 @@
-use Rattle.std.proofs.Common.{◌≡◌, ◌∙◌, ℕ, cond, List, true, false, sym, ap, arith}
+use Rattle.std.proofs.Common.{◌≡◌, ◌∙◌, ℕ, List, true, false, sym, refl, ap, cond}
 use Rattle.model_core.specs.declared.entry.Entry.{Entry}
 use Rattle.model_core.specs.declared.state.Sizes.{Sizes}
-use Rattle.weak_maps.specs.Beside.{refusals_by, writings_by}
-use Rattle.weak_maps.proofs.MachineLemmas.{at_machine, counted_by}
+use Rattle.weak_maps.proofs.MachineLemmas.{at_machine}
 use Rattle.weak_maps.proofs.GuardLemmas.{guards_since}
 use Rattle.weak_maps.proofs.RoomLemmas.{room_guards, room_refused, room_whole}
-use Rattle.weak_laws.proofs.OfMaps.FrontLemmas.{prefix_same, prefix_trans}
-use Rattle.weak_maps.proofs.GetLemmas.{grows_by}
+use Rattle.weak_laws.proofs.OfMaps.FrontLemmas.{prefix_same}
+use Rattle.weak_maps.proofs.FrameLemmas.{leaves_trans, makes_then, spends_makes, spends_none}
 use Rattle.weak_maps.proofs.putting.make_room.Goals as goal
 
-pub returns-then-is_full-clause-labels : goal.returns-then-is_full-clause-labels
-returns-then-is_full-clause-labels g c =
-    let l = c.perform-made.ensures.labels in
-    let given = c.perform-made.ensures.given in
-    let full = c.is_full.ensures.count ∙ ap (λ b. cond b 1 0) c.if-is_full.true in
-    omega (arith, l, given, full)
+pub returns-then-is_full-clause-makes : goal.returns-then-is_full-clause-makes
+returns-then-is_full-clause-makes g c = spends_makes false refl refl (c.is_full.ensures.count ∙ ap (λ b. cond b 1 0) c.if-is_full.true) c.perform-made.ensures.spends
 
-pub returns-then-is_full-clause-refused : goal.returns-then-is_full-clause-refused
-returns-then-is_full-clause-refused g c =
-    let f = c.perform-made.ensures.refused in
-    let full = c.is_full.ensures.count ∙ ap (λ b. cond b 1 0) c.if-is_full.true in
-    omega (arith, f, full)
+pub returns-clause-makes : goal.returns-clause-makes
+returns-clause-makes g c =
+    let made = spends_makes true refl refl (c.is_full.ensures.count ∙ ap (λ b. cond b 1 0) c.if-is_full.false) c.perform-made.ensures.spends in
+    makes_then made (leaves_trans (spends_none refl c.perform-leaf.ensures.spends) (spends_none refl c.perform-deeper.ensures.spends))
 
 pub returns-then-is_full-clause-made : goal.returns-then-is_full-clause-made
 returns-then-is_full-clause-made g c =
@@ -30,38 +24,6 @@ returns-then-is_full-clause-made g c =
     λ first front root k j l v rest register shows few key field binds way leaf map respects.
     room_refused z root d old _ c.perform-made.result c.perform-made.ensures.performed (c.is_full.ensures.full.0 c.if-is_full.true) map respects
 
-pub returns-clause-labels : goal.returns-clause-labels
-returns-clause-labels g c =
-    let l0 = c.perform-made.ensures.labels in
-    let g0 = c.perform-made.ensures.given in
-    let l1 = c.perform-leaf.ensures.labels in
-    let l2 = c.perform-deeper.ensures.labels in
-    let full = c.is_full.ensures.count ∙ ap (λ b. cond b 1 0) c.if-is_full.false in
-    omega (arith, l0, g0, l1, l2, full)
-
-pub returns-clause-refused : goal.returns-clause-refused
-returns-clause-refused g c =
-    let d : ℕ = g.M.Machine.domain c.args.m.now in
-    let o1 : g.M.Machine.domain c.perform-made.new.m ≡ d = c.perform-made.ensures.domain in
-    let o2 : g.M.Machine.domain c.perform-leaf.new.m ≡ d = c.perform-leaf.ensures.domain ∙ o1 in
-    let f0 = c.perform-made.ensures.refused in
-    let f1 = counted_by refusals_by d _ _ _ _ o1 c.perform-leaf.ensures.refused in
-    let f2 = counted_by refusals_by d _ _ _ _ o2 c.perform-deeper.ensures.refused in
-    let k1 = c.perform-leaf.ensures.given in
-    let k2 = c.perform-deeper.ensures.given in
-    let full = c.is_full.ensures.count ∙ ap (λ b. cond b 1 0) c.if-is_full.false in
-    omega (arith, f0, f1, f2, k1, k2, full)
-
-pub returns-clause-written : goal.returns-clause-written
-returns-clause-written g c =
-    let d : ℕ = g.M.Machine.domain c.args.m.now in
-    let o1 : g.M.Machine.domain c.perform-made.new.m ≡ d = c.perform-made.ensures.domain in
-    let o2 : g.M.Machine.domain c.perform-leaf.new.m ≡ d = c.perform-leaf.ensures.domain ∙ o1 in
-    let w0 = c.perform-made.ensures.written in
-    let w1 = counted_by writings_by d _ _ _ _ o1 c.perform-leaf.ensures.written in
-    let w2 = counted_by writings_by d _ _ _ _ o2 c.perform-deeper.ensures.written in
-    omega (arith, w0, w1, w2)
-
 pub returns-clause-made : goal.returns-clause-made
 returns-clause-made g c =
     let z : Sizes = g.M.Machine.sizes c.args.m.now in
@@ -70,27 +32,14 @@ returns-clause-made g c =
     let n0 : List Entry = g.M.Machine.front c.perform-made.new.m in
     let n1 : List Entry = g.M.Machine.front c.perform-leaf.new.m in
     let new : List Entry = g.M.Machine.front c.perform-deeper.new.m in
-    let s1 : g.M.Machine.sizes c.perform-made.new.m ≡ z = c.perform-made.ensures.sizes in
-    let o1 : g.M.Machine.domain c.perform-made.new.m ≡ d = c.perform-made.ensures.domain in
-    let s2 : g.M.Machine.sizes c.perform-leaf.new.m ≡ z = c.perform-leaf.ensures.sizes ∙ s1 in
-    let o2 : g.M.Machine.domain c.perform-leaf.new.m ≡ d = c.perform-leaf.ensures.domain ∙ o1 in
+    let s1 : g.M.Machine.sizes c.perform-made.new.m ≡ z = c.perform-made.ensures.spends.stays.sizes in
+    let o1 : g.M.Machine.domain c.perform-made.new.m ≡ d = c.perform-made.ensures.spends.stays.domain in
+    let s2 : g.M.Machine.sizes c.perform-leaf.new.m ≡ z = c.perform-leaf.ensures.spends.stays.sizes ∙ s1 in
+    let o2 : g.M.Machine.domain c.perform-leaf.new.m ≡ d = c.perform-leaf.ensures.spends.stays.domain ∙ o1 in
     λ first front root k j l v rest register shows few key field binds way leaf map respects.
-    room_whole z c.stands.ensures.limits root d first front k j l v old n0 n1 new c.perform-made.result c.perform-leaf.result c.perform-deeper.result c.args.index rest c.args.digit shows register few c.requires.small
+    room_whole z c.shows_legal.ensures.limits root d first front k j l v old n0 n1 new c.perform-made.result c.perform-leaf.result c.perform-deeper.result c.args.index rest c.args.digit shows register few c.requires.small
     c.perform-made.ensures.performed (at_machine z _ d _ n0 n1 _ _ s1 o1 c.perform-leaf.ensures.performed) (at_machine z _ d _ n1 new _ _ s2 o2 c.perform-deeper.ensures.performed)
     (λ e. let clash : true ≡ false = sym (c.is_full.ensures.full.1 e) ∙ c.if-is_full.false in cc) map field binds leaf key way respects
-
-pub returns-then-is_full-clause-grows : goal.returns-then-is_full-clause-grows
-returns-then-is_full-clause-grows g c = grows_by (g.M.Machine.sizes c.args.m.now) (g.M.Machine.domain c.args.m.now) (g.M.Machine.front c.args.m.now) (g.M.Machine.front c.perform-made.new.m) _ _ c.perform-made.ensures.performed
-
-pub returns-clause-grows : goal.returns-clause-grows
-returns-clause-grows g c =
-    let old : List Entry = g.M.Machine.front c.args.m.now in
-    let n0 : List Entry = g.M.Machine.front c.perform-made.new.m in
-    let n1 : List Entry = g.M.Machine.front c.perform-leaf.new.m in
-    let new : List Entry = g.M.Machine.front c.perform-deeper.new.m in
-    prefix_trans old n0 new (grows_by (g.M.Machine.sizes c.args.m.now) (g.M.Machine.domain c.args.m.now) old n0 _ _ c.perform-made.ensures.performed)
-    (prefix_trans n0 n1 new (grows_by (g.M.Machine.sizes c.perform-made.new.m) (g.M.Machine.domain c.perform-made.new.m) n0 n1 _ _ c.perform-leaf.ensures.performed)
-    (grows_by (g.M.Machine.sizes c.perform-leaf.new.m) (g.M.Machine.domain c.perform-leaf.new.m) n1 new _ _ c.perform-deeper.ensures.performed))
 
 pub returns-then-is_full-clause-guards : goal.returns-then-is_full-clause-guards
 returns-then-is_full-clause-guards g c =
@@ -109,11 +58,11 @@ returns-clause-guards g c =
     let n0 : List Entry = g.M.Machine.front c.perform-made.new.m in
     let n1 : List Entry = g.M.Machine.front c.perform-leaf.new.m in
     let new : List Entry = g.M.Machine.front c.perform-deeper.new.m in
-    let s1 : g.M.Machine.sizes c.perform-made.new.m ≡ z = c.perform-made.ensures.sizes in
-    let o1 : g.M.Machine.domain c.perform-made.new.m ≡ d = c.perform-made.ensures.domain in
-    let s2 : g.M.Machine.sizes c.perform-leaf.new.m ≡ z = c.perform-leaf.ensures.sizes ∙ s1 in
-    let o2 : g.M.Machine.domain c.perform-leaf.new.m ≡ d = c.perform-leaf.ensures.domain ∙ o1 in
+    let s1 : g.M.Machine.sizes c.perform-made.new.m ≡ z = c.perform-made.ensures.spends.stays.sizes in
+    let o1 : g.M.Machine.domain c.perform-made.new.m ≡ d = c.perform-made.ensures.spends.stays.domain in
+    let s2 : g.M.Machine.sizes c.perform-leaf.new.m ≡ z = c.perform-leaf.ensures.spends.stays.sizes ∙ s1 in
+    let o2 : g.M.Machine.domain c.perform-leaf.new.m ≡ d = c.perform-leaf.ensures.spends.stays.domain ∙ o1 in
     λ first front root k j l v rest register shows few key field binds way leaf map.
-    room_guards z c.stands.ensures.limits root d first front k j l v old n0 n1 new c.perform-made.result c.perform-leaf.result c.perform-deeper.result c.args.index rest c.args.digit shows register few c.requires.small
+    room_guards z c.shows_legal.ensures.limits root d first front k j l v old n0 n1 new c.perform-made.result c.perform-leaf.result c.perform-deeper.result c.args.index rest c.args.digit shows register few c.requires.small
     c.perform-made.ensures.performed (at_machine z _ d _ n0 n1 _ _ s1 o1 c.perform-leaf.ensures.performed) (at_machine z _ d _ n1 new _ _ s2 o2 c.perform-deeper.ensures.performed)
     (λ e. let clash : true ≡ false = sym (c.is_full.ensures.full.1 e) ∙ c.if-is_full.false in cc) map field binds leaf key way

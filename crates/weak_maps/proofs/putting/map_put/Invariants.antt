@@ -6,6 +6,7 @@ use Rattle.weak_laws.specs.Tables.Stages.{graph_of}
 use Rattle.weak_laws.specs.Maps.Tries.{IsMap, IsInPlace}
 use Rattle.weak_laws.specs.Maps.Steps.{OthersLeave, OthersRespect}
 use Rattle.weak_maps.specs.Beside.{held_by, refusals_by, writings_by}
+use Rattle.weak_maps.specs.Frames.{Stays}
 use Rattle.weak_maps.specs.Guards.{PutGuards}
 use Rattle.weak_maps.specs.Puts.{Putting}
 use Rattle.weak_maps.specs.Settles.{IsDeep}
@@ -13,9 +14,7 @@ use Rattle.weak_maps.proofs.putting.map_put.Given as goal
 
 abbrev pub invariant-tries : goal.invariant-tries
 invariant-tries g l = record {
-  same : g.M.Machine.sizes l.m ≡ g.M.Machine.sizes l.fn.m;
-  own : g.M.Machine.domain l.m ≡ g.M.Machine.domain l.fn.m;
-  heap : g.M.Machine.heap l.m ≡ g.M.Machine.heap l.fn.m;
+  stays : Stays g.M.Machine.sizes g.M.Machine.domain g.M.Machine.heap l.fn.m l.m;
   grows : IsPrefix (g.M.Machine.front l.fn.m) (g.M.Machine.front l.m);
   labels : g.M.Machine.labels_left l.fn.m + l.rooms ≡ g.M.Machine.labels_left l.m + 7;
   few : l.rooms ≤ 6;

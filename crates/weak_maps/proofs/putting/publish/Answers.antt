@@ -18,8 +18,8 @@ returns-clause-published g c =
     let p = c.exchange-won.ensures.exchanged in
     λ first front root k l v rest register shows key field binds leaf map respects.
     by_reply c.is_yes.result (λ b. PublishesBy z d first front old new root k c.args.index rest shows field l v b) (c.exchange-won.result ≡ reply.Yes) c.is_yes.ensures.0 c.is_yes.ensures.1
-    (publish_won z c.stands.ensures.limits root d first front k l v old new c.exchange-won.result c.args.index rest shows register p respects map field binds leaf key)
-    (publish_lost z c.stands.ensures.limits root d first front k l v old new c.exchange-won.result c.args.index rest shows register p respects map field binds leaf key)
+    (publish_won z c.shows_legal.ensures.limits root d first front k l v old new c.exchange-won.result c.args.index rest shows register p respects map field binds leaf key)
+    (publish_lost z c.shows_legal.ensures.limits root d first front k l v old new c.exchange-won.result c.args.index rest shows register p respects map field binds leaf key)
   where
     by_reply : (b : Bool) (P : Bool → Type 0) (Q : Type 0) → (b ≡ true → Q) → (Q → b ≡ true) → (Q → P true) → ((Q → ⊥) → P false) → P b
     by_reply true P Q there back on_won on_lost = on_won (there refl)

@@ -11,7 +11,7 @@ pub returns-clause-refused : goal.returns-clause-refused
 returns-clause-refused g c = performed_refusals (g.M.Machine.sizes c.args.m.now) _ _ _ _ c.perform.ensures.performed
 
 pub returns-clause-given : goal.returns-clause-given
-returns-clause-given g c = performed_gives (g.M.Machine.sizes c.args.m.now) c.stands.ensures.limits _ _ _ _ c.perform.ensures.performed
+returns-clause-given g c = performed_gives (g.M.Machine.sizes c.args.m.now) c.shows_legal.ensures.limits _ _ _ _ c.perform.ensures.performed
 
 pub returns-clause-written : goal.returns-clause-written
 returns-clause-written g c = performed_writings (g.M.Machine.sizes c.args.m.now) _ _ _ _ c.perform.ensures.performed

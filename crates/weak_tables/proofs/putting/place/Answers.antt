@@ -1,13 +1,9 @@
-use Rattle.std.proofs.Common.{◌≡◌, ◌∙◌, sym, subst, List, Bool, IsTrue, Some, None}
-use Rattle.model_core.specs.declared.label.Label.{Label}
+use Rattle.std.proofs.Common.{◌∙◌, sym, subst, List, Some, None}
 use Rattle.model_core.specs.declared.entry.Entry.{Entry}
-use Rattle.model_core.specs.declared.graph.Value.TheVariants.{Block}
 use Rattle.model_core.specs.declared.state.Sizes.{Sizes}
-use Rattle.weak_laws.specs.Tables.Structures.{Cell, IsTable, bindings, datum_at}
-use Rattle.weak_laws.specs.Tables.Stages.{graph_of, held_in}
 use Rattle.weak_tables.specs.declared.find.Find.TheVariants.{Key, Spare, Nowhere}
 use Rattle.weak_tables.specs.Held.{HoldsTable}
-use Rattle.weak_tables.specs.Walks.{Placed, Searched}
+use Rattle.weak_tables.specs.Walks.{GrownAt, Searched}
 use Rattle.weak_tables.proofs.SearchLemmas.{below_eight}
 use Rattle.weak_tables.proofs.PutLemmas.{missed_holds, placed_after, ready_found}
 use Rattle.weak_tables.proofs.putting.place.Goals as goal
@@ -32,7 +28,7 @@ grow-requires-clause-table g c =
     let old : List Entry = g.M.Machine.front c.args.m.now in
     let s : Searched z old (g.M.Machine.front c.search.new.m) c.args.table c.args.label.now Nowhere = subst (λ f. Searched z old (g.M.Machine.front c.search.new.m) c.args.table c.args.label.now f) c.in-Nowhere.is c.search.ensures.searched in
     let t = c.requires.table in
-    subst (λ (y : Sizes). HoldsTable y (g.M.Machine.front c.search.new.m) c.args.table) (sym c.search.ensures.sizes)
+    subst (λ (y : Sizes). HoldsTable y (g.M.Machine.front c.search.new.m) c.args.table) (sym c.search.ensures.passes.keeps.sizes)
     (missed_holds z old _ t.root t.chains c.args.label.now c.args.table c.requires.few.0 t.held (s t.root t.chains t.held t.table).0)
 
 pub returns-in-Nowhere-clause-placed : goal.returns-in-Nowhere-clause-placed
@@ -41,9 +37,7 @@ returns-in-Nowhere-clause-placed g c =
     let old : List Entry = g.M.Machine.front c.args.m.now in
     let f : List Entry = g.M.Machine.front c.search.new.m in
     let s : Searched z old f c.args.table c.args.label.now Nowhere = subst (λ x. Searched z old f c.args.table c.args.label.now x) c.in-Nowhere.is c.search.ensures.searched in
-    let grown : (root : Label) (chains : List (List Cell)) → held_in z f c.args.table ≡ Block root → IsTable (graph_of z f) root chains → datum_at (bindings (graph_of z f) chains) c.args.label.now ≡ None → (full : Bool) → IsTrue full → Placed z f (g.M.Machine.front c.grow.new.m) root chains c.args.label.now full c.grow.result =
-    subst (λ (y : Sizes). (root : Label) (chains : List (List Cell)) → held_in y f c.args.table ≡ Block root → IsTable (graph_of y f) root chains → datum_at (bindings (graph_of y f) chains) c.args.label.now ≡ None → (full : Bool) → IsTrue full → Placed y f (g.M.Machine.front c.grow.new.m) root chains c.args.label.now full c.grow.result)
-    c.search.ensures.sizes c.grow.ensures.placed in
+    let grown : GrownAt z f (g.M.Machine.front c.grow.new.m) c.args.table c.args.label.now c.grow.result = subst (λ (y : Sizes). GrownAt y f (g.M.Machine.front c.grow.new.m) c.args.table c.args.label.now c.grow.result) c.search.ensures.passes.keeps.sizes c.grow.ensures.placed in
     λ root chains held table.
     let m = s root chains held table in
     placed_after z old f _ root chains c.args.label.now _ c.grow.result m.0 (grown root chains (below_eight z old f c.args.table c.requires.few.0 m.0.keeps ∙ held) m.0.reads.table m.0.none _ m.1)

@@ -8,4 +8,4 @@ pub returns-then-not-is_empty-clause-kept : goal.returns-then-not-is_empty-claus
 returns-then-not-is_empty-clause-kept g c = inl (refl, sym c.if-spare.false, inr (λ e. let clash : true ≡ false = sym (c.is_empty.ensures.1 e) ∙ c.if-not-is_empty.true in cc))
 
 pub returns-clause-kept : goal.returns-clause-kept
-returns-clause-kept g c = inr (c.if-spare.false, c.is_empty.ensures.0 c.if-not-is_empty.false, refl, (_, c.perform-spare.ensures.performed))
+returns-clause-kept g c = inr (c.if-spare.false, c.is_empty.ensures.0 c.if-not-is_empty.false, refl, (_, c.load-spare.ensures.performed))

@@ -6,6 +6,6 @@ use Rattle.weak_tables.proofs.taking.clear.Goals as goal
 pub returns-clause-cleared : goal.returns-clause-cleared
 returns-clause-cleared g c =
     let z : Sizes = g.M.Machine.sizes c.args.m.now in
-    all_cleared z c.stands.ensures.limits _ _ _ _ _ _ _ c.perform-eight.ensures.performed
-    (at_sizes z _ _ _ _ _ c.perform-eight.ensures.sizes c.perform-nine.ensures.performed)
-    (at_sizes z _ _ _ _ _ (c.perform-nine.ensures.sizes ∙ c.perform-eight.ensures.sizes) c.perform-ten.ensures.performed)
+    all_cleared z c.shows_legal.ensures.limits _ _ _ _ _ _ _ c.perform_between-eight.ensures.performed
+    (at_sizes z _ _ _ _ _ c.perform_between-eight.ensures.passes.keeps.sizes c.perform_between-nine.ensures.performed)
+    (at_sizes z _ _ _ _ _ (c.perform_between-nine.ensures.passes.keeps.sizes ∙ c.perform_between-eight.ensures.passes.keeps.sizes) c.perform_between-ten.ensures.performed)

@@ -1,7 +1,6 @@
-use Rattle.std.proofs.Common.{◌≡◌, ◌+◌, ◌*◌, ◌≤◌}
-use Rattle.model_core.specs.History.{IsPrefix}
-use Rattle.weak_maps.specs.Beside.{refusals_by, writings_by}
+use Rattle.std.proofs.Common.{◌+◌, ◌*◌}
 use Rattle.weak_maps.specs.Lists.Counts.{CountsBlock}
+use Rattle.weak_maps.specs.Frames.{Leaves}
 use Rattle.weak_maps.proofs.lists.counting.+counting.Given as goal
 
 abbrev pub decreases-count_block : goal.decreases-count_block
@@ -12,13 +11,6 @@ decreases-count_field g l = 2 * l.left
 
 abbrev pub invariant-count_block-fields : goal.invariant-count_block-fields
 invariant-count_block-fields g l = record {
-  same : g.M.Machine.sizes l.m ≡ g.M.Machine.sizes l.fn.m;
-  own : g.M.Machine.domain l.m ≡ g.M.Machine.domain l.fn.m;
-  heap : g.M.Machine.heap l.m ≡ g.M.Machine.heap l.fn.m;
-  grows : IsPrefix (g.M.Machine.front l.fn.m) (g.M.Machine.front l.m);
-  labels : g.M.Machine.labels_left l.m ≡ g.M.Machine.labels_left l.fn.m;
-  room : g.M.Machine.ephes_room l.fn.m ≤ g.M.Machine.ephes_room l.m;
-  given : refusals_by (g.M.Machine.domain l.fn.m) (g.M.Machine.front l.m) ≡ refusals_by (g.M.Machine.domain l.fn.m) (g.M.Machine.front l.fn.m);
-  written : writings_by (g.M.Machine.domain l.fn.m) (g.M.Machine.front l.m) ≡ writings_by (g.M.Machine.domain l.fn.m) (g.M.Machine.front l.fn.m);
+  leaves : Leaves g.M.Machine.sizes g.M.Machine.domain g.M.Machine.heap g.M.Machine.front g.M.Machine.labels_left g.M.Machine.ephes_room l.fn.m l.m;
   counted : CountsBlock (g.M.Machine.sizes l.fn.m) (g.M.Machine.front l.fn.m) (g.M.Machine.front l.m) l.block l.left l.index l.count;
 }

@@ -1,7 +1,6 @@
-use Rattle.std.proofs.Common.{◌≡◌, ◌+◌, ◌*◌, ◌≤◌}
-use Rattle.model_core.specs.History.{IsPrefix}
-use Rattle.weak_maps.specs.Sweeps.Counts.{CountsNone}
+use Rattle.std.proofs.Common.{◌+◌, ◌*◌}
 use Rattle.weak_maps.specs.Sweeps.Sweeps.{SweepsBlock}
+use Rattle.weak_maps.specs.Frames.{Leaves}
 use Rattle.weak_maps.proofs.sweeps.sweeping.+sweeping.Given as goal
 
 abbrev pub decreases-sweep_block : goal.decreases-sweep_block
@@ -12,12 +11,6 @@ decreases-sweep_field g l = 2 * l.left
 
 abbrev pub invariant-sweep_block-fields : goal.invariant-sweep_block-fields
 invariant-sweep_block-fields g l = record {
-  same : g.M.Machine.sizes l.m ≡ g.M.Machine.sizes l.fn.m;
-  own : g.M.Machine.domain l.m ≡ g.M.Machine.domain l.fn.m;
-  heap : g.M.Machine.heap l.m ≡ g.M.Machine.heap l.fn.m;
-  grows : IsPrefix (g.M.Machine.front l.fn.m) (g.M.Machine.front l.m);
-  labels : g.M.Machine.labels_left l.m ≡ g.M.Machine.labels_left l.fn.m;
-  room : g.M.Machine.ephes_room l.fn.m ≤ g.M.Machine.ephes_room l.m;
-  counts : CountsNone (g.M.Machine.domain l.fn.m) (g.M.Machine.front l.fn.m) (g.M.Machine.front l.m);
+  leaves : Leaves g.M.Machine.sizes g.M.Machine.domain g.M.Machine.heap g.M.Machine.front g.M.Machine.labels_left g.M.Machine.ephes_room l.fn.m l.m;
   swept : SweepsBlock (g.M.Machine.sizes l.fn.m) (g.M.Machine.domain l.fn.m) (g.M.Machine.front l.fn.m) (g.M.Machine.front l.m) l.block l.left l.index;
 }
