@@ -2,7 +2,6 @@ pub mod Fillings
 pub mod Update
 pub mod Lists
 pub mod Sizes
-pub mod HistorySizes
 pub mod Values
 pub mod PauseFacts
 pub mod HeadLemmas

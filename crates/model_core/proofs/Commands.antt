@@ -1,4 +1,5 @@
 -- What one command does to a state.
+pub mod OutcomeLemmas
 pub mod MoveLemmas
 pub mod ShapeLemmas
 pub mod LeavesLemmas

@@ -6,6 +6,7 @@ pub mod NumberLemmas
 pub mod ShapeAfterLemmas
 pub mod TallyLemmas
 pub mod AnswerLemmas
+pub mod SizesLemmas
 pub mod FreshLemmas
 pub mod FieldLemmas
 pub mod Rows

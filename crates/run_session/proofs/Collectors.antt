@@ -21,7 +21,7 @@ use Rattle.model_core.proofs.Graphs.GraphLemmas.{and_parts}
 use Rattle.model_core.proofs.Histories.FrontLemmas.{none_cons}
 use Rattle.model_core.proofs.Histories.HistoryLemmas.{state_after-push}
 use Rattle.model_core.proofs.Histories.ShapeAfterLemmas.{shaped-history}
-use Rattle.heap_rule.proofs.HistorySizes.{sizes_after}
+use Rattle.model_core.proofs.Histories.SizesLemmas.{sizes_after}
 use Rattle.run_turns.specs.Handed.{Finalised, OnlyRuns, PerformedOn}
 use Rattle.run_turns.specs.Kept.{is_run_of}
 use Rattle.weak_laws.specs.Tables.Performing.{Performed}

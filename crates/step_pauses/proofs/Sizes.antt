@@ -7,7 +7,7 @@ use Rattle.model_core.proofs.Histories.ShapeAfterLemmas.{shaped-history}
 use Rattle.heap_rule.specs.declared.config.Config.{Config}
 use Rattle.heap_rule.specs.Limits.{sizes_in}
 use Rattle.heap_rule.specs.Rule.{state_of}
-use Rattle.heap_rule.proofs.HistorySizes.{sizes_after}
+use Rattle.model_core.proofs.Histories.SizesLemmas.{sizes_after}
 
 -- each domain of the heap is one of the state's
 pub domains_of : (k : Config) (log : List Entry) → IsWithinLimits (sizes_in k) → length (state_of k log).domains ≡ k.domains

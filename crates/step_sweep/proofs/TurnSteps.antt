@@ -69,7 +69,7 @@ use Rattle.step_marks.proofs.OfMarking.Plain.{share_closes}
 use Rattle.step_marks.proofs.OfMarking.Layouts.{label_there, labelled}
 use Rattle.step_sweep.specs.Turning.{TurnMay, TurnTold}
 use Rattle.step_sweep.proofs.Enrolling.{enrolled_left}
-use Rattle.heap_rule.proofs.HistorySizes.{sizes_after}
+use Rattle.model_core.proofs.Histories.SizesLemmas.{sizes_after}
 use Rattle.step_sweep.proofs.Reaping.{reaped_to, reaps}
 use Rattle.step_sweep.proofs.Rotating.{dead_gone, dead_was, kept_of, kept_or_dead, kept_was, left_garbage, left_live, rotated_fits, rotated_paint, stands_left, was_kept}
 use Rattle.heap_rule.proofs.Lists.{no_item}

@@ -11,7 +11,7 @@ use Rattle.model_core.specs.Entries.{next}
 use Rattle.model_core.specs.History.{IsPrefix, state_after}
 use Rattle.model_core.proofs.Graphs.GraphStepLemmas.{labels_stay_law}
 use Rattle.model_core.proofs.Histories.HistoryLemmas.{state_after-append}
-use Rattle.model_core.proofs.Histories.NumberLemmas.{node_at-no_label}
+use Rattle.model_core.proofs.Histories.NumberLemmas.{no_label, node_at-no_label}
 use Rattle.weak_laws.specs.Tables.Thinning.{state_of}
 use Rattle.weak_laws.specs.Tables.Stages.{graph_of}
 use Rattle.weak_laws.proofs.OfTables.StageLemmas.{prefix_trans}
@@ -28,14 +28,6 @@ use Rattle.table_run.specs.Running.{LineRuns, MakesNew, WasCounted}
 pub labels_go_on : (s : State) (h : List Entry) (l : Label) → IsTrue (has_label (labels s.graph) l) → IsTrue (has_label (labels (state_after s h).graph) l)
 labels_go_on s [] l there = there
 labels_go_on s (e ∷ h) l there = labels_go_on (next s e) h l (labels_stay_law s e l there)
-
-no_label : (g : Graph) (l : Label) → node_at g l ≡ None → has_label (labels g) l ≡ false
-no_label [] l e = refl
-no_label (x ∷ g) l e = go (same_label x.0 l) (no_label g l) e
-  where
-    go : (b : Bool) → (node_at g l ≡ None → has_label (labels g) l ≡ false) → cond b (Some x.1) (node_at g l) ≡ None → (b || has_label (labels g) l) ≡ false
-    go true rest e = cc
-    go false rest e = rest e
 
 -- what is no block's label at one front was none's at an earlier one
 pub unmade_before : (z : Sizes) (old new : List Entry) (l : Label) → IsPrefix old new → node_at (graph_of z new) l ≡ None → node_at (graph_of z old) l ≡ None

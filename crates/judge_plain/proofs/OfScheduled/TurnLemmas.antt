@@ -16,41 +16,14 @@ use Rattle.model_core.specs.Domains.{IsShaped, IsWithinLimits, domain_at, no_dom
 use Rattle.model_core.specs.Entries.{after_run, next, wiped, with_wiped}
 use Rattle.model_core.specs.Graph.{node_at}
 use Rattle.model_core.specs.History.{LegalFrom, state_after}
-use Rattle.model_core.proofs.Commands.MoveLemmas.{outcome-sizes}
 use Rattle.model_core.proofs.Histories.ShapeAfterLemmas.{shaped-history}
+use Rattle.model_core.proofs.Histories.SizesLemmas.{sizes_after}
 use Rattle.model_traces.specs.declared.schedules.items.Item.{Item}
 use Rattle.model_traces.specs.declared.schedules.items.Item.TheVariants.{Turn, Collect}
 use Rattle.model_traces.specs.Schedules.Scheduled.{Played, all_ended, begun, behind, complete, domains_of, left_of, next_entries, take_item, take_round, take_turn, turn_on, with_entries, with_next}
 use Rattle.model_traces.specs.Scheduled.Runs.{IsPlainScript, IsPlayed, Nothing}
 use Rattle.model_traces.proofs.OfScheduled.Turns.{collects, entries_played, item_played, makes, run_all, sections_plain, turn_played}
 use Rattle.judge_plain.specs.Scheduled.UnderWay.{IsUnderWay}
-
--- no entry changes the sizes
-wiped_sizes : (s : State) (l : Label) (o : Option Node) → (with_wiped s l o).sizes ≡ s.sizes
-wiped_sizes s l None = refl
-wiped_sizes s l (Some node) = refl
-
-run_sizes : (s : State) (d : ℕ) (queue : List Pending) → (after_run s d queue).sizes ≡ s.sizes
-run_sizes s d [] = refl
-run_sizes s d (Fin number l r ∷ rest) = refl
-run_sizes s d (Last number ∷ rest) = refl
-
-sizes_next : (s : State) (e : Entry) → (next s e).sizes ≡ s.sizes
-sizes_next s (CommandOf d c true) = refl
-sizes_next s (CommandOf d c false) = outcome-sizes s d c
-sizes_next s (End d) = refl
-sizes_next s Cut = refl
-sizes_next s (Queue d places) = refl
-sizes_next s Seal = refl
-sizes_next s (Wipe l keys) = wiped_sizes s l (wiped keys (node_at s.graph l))
-sizes_next s (LastOf d place) = refl
-sizes_next s Collected = refl
-sizes_next s Done = refl
-sizes_next s (Ran d) = run_sizes s d (domain_at s d).queue
-
-sizes_after : (s : State) (h : List Entry) → (state_after s h).sizes ≡ s.sizes
-sizes_after s [] = refl
-sizes_after s (e ∷ h) = sizes_after (next s e) h ∙ sizes_next s e
 
 -- there is a section for each domain
 pub domain_count : (p : Played) → IsUnderWay p → length p.state.domains ≡ length p.left

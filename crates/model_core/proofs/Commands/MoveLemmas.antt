@@ -19,6 +19,7 @@ use Rattle.model_core.specs.Laws.{written_by}
 use Rattle.model_core.specs.WellFormed.{names_of, HaveNodes, IsWellFormed}
 use Rattle.model_core.proofs.Graphs.ListLemmas.{all_set, all_replicate}
 use Rattle.model_core.proofs.Graphs.NamedLemmas.{have_none, have_append, have_left, have_right, have_set, have_at, have_get, have_replicate}
+use Rattle.model_core.proofs.Commands.OutcomeLemmas.{bounds_each, ephe_each, tells_each}
 
 -- whether a command registers a finaliser
 abbrev pub registers_one : Command → Bool
@@ -79,8 +80,7 @@ module _ (g : Graph) (keys : List (Option Label)) (datum : Value) (named : HaveN
 
 module _ (P : State → Type 0) (s : State) (d : ℕ) (c : Command) (m : Moves P s d c) where
   within : {A : Type 0} (o : Option A) (f : A → Outcome) → ((a : A) → o ≡ Some a → P (f a).state) → P (in_bounds s o f).state
-  within None f each = m.same
-  within (Some a) f each = each a refl
+  within = bounds_each (λ o. P o.state) s m.same
 
   -- a command that looks at the block in register r
   module _ (r : ℕ) where
@@ -97,17 +97,10 @@ module _ (P : State → Type 0) (s : State) (d : ℕ) (c : Command) (m : Moves P
 
     at_keys : (f : Label → List (Option Label) → Value → Outcome)
         → ((l : Label) (keys : List (Option Label)) (datum : Value) → block_in s d r ≡ Some (l, Ephe keys datum) → P (f l keys datum).state) → P (at_ephe s (block_in s d r) f).state
-    at_keys f each = go (block_in s d r) refl
-      where
-        go : (b : Option (Label × Node)) → block_in s d r ≡ b → P (at_ephe s b f).state
-        go None e = m.same
-        go (Some (l, Plain tag fields)) e = m.same
-        go (Some (l, Raw tag fields)) e = m.same
-        go (Some (l, Ephe keys datum)) e = each l keys datum e
+    at_keys = ephe_each (λ o. P o.state) s m.same d r
 
   told : (b : Bool) → P (tells s b).state
-  told true = m.same
-  told false = m.same
+  told = tells_each (λ o. P o.state) s m.same m.same
 
   -- and one that writes it
   module _ (r : ℕ) (writes : (l : Label) → label_in s d r ≡ Some l → written_by s d c ≡ Some l) where

@@ -22,6 +22,7 @@ use Rattle.model_core.proofs.Commands.FrameLemmas.{part_set, part_map, frame_com
 use Rattle.model_core.proofs.Commands.MoveLemmas.{keeps_outcome}
 use Rattle.model_core.proofs.Histories.FrontLemmas.{none_cons}
 use Rattle.model_core.proofs.Histories.HistoryLemmas.{state_after-append}
+use Rattle.model_core.proofs.Histories.SizesLemmas.{count_after, count_next}
 
 -- a complete collection has been since the last command of domain d
 abbrev pub IsFresh : State → ℕ → Type 0
@@ -64,36 +65,6 @@ fresh_next s (Ran j) d other fresh = run_fresh s j (domain_at s j).queue d (not_
 fresh_after : (s : State) (h : List Entry) (d : ℕ) → NoneOf d h → IsFresh s d → IsFresh (state_after s h) d
 fresh_after s [] d none fresh = fresh
 fresh_after s (e ∷ h) d none fresh = let parts = none_cons d e h none in fresh_after (next s e) h d parts.1 (fresh_next s e d parts.0 fresh)
-
--- no entry changes how many domains there are
-wiped_count : (s : State) (l : Label) (o : Option Node) → length (with_wiped s l o).domains ≡ length s.domains
-wiped_count s l None = refl
-wiped_count s l (Some n) = refl
-
-run_count : (s : State) (j : ℕ) (queue : List Pending) → length (after_run s j queue).domains ≡ length s.domains
-run_count s j [] = refl
-run_count s j (Fin number l r ∷ rest) = length-set (with_domain s j (without_first (domain_at s j) rest)).domains j _ ∙ length-set s.domains j _
-run_count s j (Last number ∷ rest) = length-set s.domains j _
-
-outcome_count : (s : State) (d : ℕ) (c : Command) → length (outcome s d c).state.domains ≡ length s.domains
-outcome_count s = keeps_outcome (λ t. length t.domains ≡ length s.domains) (λ t d x q. length-set t.domains d x ∙ q) (λ t g n q. q) s refl
-
-count_next : (s : State) (e : Entry) → length (next s e).domains ≡ length s.domains
-count_next s (CommandOf d c true) = length-set s.domains d _
-count_next s (CommandOf d c false) = length-set (outcome s d c).state.domains d _ ∙ outcome_count s d c
-count_next s (End d) = length-set s.domains d _
-count_next s Cut = length-map s.domains with_finals_open
-count_next s (Queue d places) = length-set s.domains d _
-count_next s Seal = length-map s.domains with_lasts_open
-count_next s (Wipe l keys) = wiped_count s l (wiped keys (node_at s.graph l))
-count_next s (LastOf d place) = length-set s.domains d _
-count_next s Collected = length-map s.domains freshened
-count_next s Done = refl
-count_next s (Ran d) = run_count s d (domain_at s d).queue
-
-count_after : (s : State) (h : List Entry) → length (state_after s h).domains ≡ length s.domains
-count_after s [] = refl
-count_after s (e ∷ h) = count_after (next s e) h ∙ count_next s e
 
 -- where a complete collection is answered, it is fresh for domain d
 abbrev IsFreshAnswer : State → ℕ → Type 0

@@ -145,6 +145,15 @@ next_label-new s numbered d = go (has_label (labels s.graph) (next_label s d)) r
     go true e = absurd (let least : (domain_at s d).serial + 1 ≤ (domain_at s d).serial = numbered (next_label s d) e in omega (arith, least))
     go false e = refl
 
+-- a label without a node is none of the graph's
+pub no_label : (g : Graph) (l : Label) → node_at g l ≡ None → has_label (labels g) l ≡ false
+no_label [] l e = refl
+no_label (x ∷ g) l e = go (same_label x.0 l) (no_label g l) e
+  where
+    go : (b : Bool) → (node_at g l ≡ None → has_label (labels g) l ≡ false) → cond b (Some x.1) (node_at g l) ≡ None → (b || has_label (labels g) l) ≡ false
+    go true rest e = cc
+    go false rest e = rest e
+
 pub node_at-no_label : (g : Graph) (l : Label) → has_label (labels g) l ≡ false → node_at g l ≡ None
 node_at-no_label [] l none = refl
 node_at-no_label (e ∷ g) l none = go (same_label e.0 l) none (node_at-no_label g l)

@@ -11,7 +11,7 @@ use Rattle.model_core.specs.Reach.{edges_of, edges_at, HoldsRoots, IsClosedUnder
 use Rattle.model_core.specs.Entries.{full_keys, opened_node, opened}
 use Rattle.model_core.proofs.Reach.ReachLemmas.{or_cases, or_left, keys_all}
 
-node_opened : (g : Graph) (l : Label) → node_at (opened g) l ≡ option_map opened_node (node_at g l)
+pub node_opened : (g : Graph) (l : Label) → node_at (opened g) l ≡ option_map opened_node (node_at g l)
 node_opened [] l = refl
 node_opened (e ∷ g) l = go (same_label e.0 l) (node_opened g l)
   where
@@ -19,12 +19,12 @@ node_opened (e ∷ g) l = go (same_label e.0 l) (node_opened g l)
     go true rest = refl
     go false rest = rest
 
-keys_labels : (keys : List (Option Label)) → filter_map label_of (map key_value keys) ≡ filter_map (λ k. k) keys
+pub keys_labels : (keys : List (Option Label)) → filter_map label_of (map key_value keys) ≡ filter_map (λ k. k) keys
 keys_labels [] = refl
 keys_labels (None ∷ keys) = keys_labels keys
 keys_labels (Some k ∷ keys) = ap (λ t. k ∷ t) (keys_labels keys)
 
-edges_opened : (g : Graph) (alive : Label → Bool) (x : Label) → edges_at (opened g) alive x ≡ option_map_or (edges_of alive) (option_map opened_node (node_at g x)) []
+pub edges_opened : (g : Graph) (alive : Label → Bool) (x : Label) → edges_at (opened g) alive x ≡ option_map_or (edges_of alive) (option_map opened_node (node_at g x)) []
 edges_opened g alive x = ap (λ (o : Option Node). option_map_or (edges_of alive) o []) (node_opened g x)
 
 -- a closed set with the keys of each ephemeron in it

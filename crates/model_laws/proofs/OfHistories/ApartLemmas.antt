@@ -35,6 +35,7 @@ use Rattle.model_laws.specs.Histories.Cells.{Cell, Field, Key, Datum, initial, c
 use Rattle.model_laws.specs.Histories.Lost.{names, IsNeverSeen}
 use Rattle.model_laws.proofs.OfHistories.CellLemmas.{held, content_is, content_none, content_grown, plain_initial, raw_initial, ephe_initial, cell_next}
 use Rattle.model_laws.proofs.OfHistories.SplitLemmas.{legal_first, legal_rest}
+use Rattle.model_core.proofs.Commands.OutcomeLemmas.{bounds_each, ephe_each, tells_each}
 
 -- the labels of a graph hold all that the domains name, and all that the blocks with these labels name
 pub record IsApart (s : State) (safe : Graph) : Type 0 where
@@ -147,12 +148,10 @@ module _ (l : Label) (s : State) (safe : Graph) (apart : IsApart s safe) (lost :
   writes_block k n = record { named = apart.domains; unseen = refl }
 
   within : {A : Type 0} (o : Option A) (f : A → Outcome) → ((a : A) → o ≡ Some a → Steps (f a)) → Steps (in_bounds s o f)
-  within None f each = answers BadIndex refl
-  within (Some a) f each = each a refl
+  within = bounds_each Steps s (answers BadIndex refl)
 
   told : (b : Bool) → Steps (tells s b)
-  told true = answers Yes refl
-  told false = answers No refl
+  told = tells_each Steps s (answers Yes refl) (answers No refl)
 
   module _ (d r : ℕ) where
     block_safe : (k : Label) (n : Node) → block_in s d r ≡ Some (k, n) → IsTrue (has_label (labels safe) k)
@@ -171,13 +170,7 @@ module _ (l : Label) (s : State) (safe : Graph) (apart : IsApart s safe) (lost :
 
     at_keys : (f : Label → List (Option Label) → Value → Outcome) → ((k : Label) (keys : List (Option Label)) (datum : Value) → block_in s d r ≡ Some (k, Ephe keys datum) → Steps (f k keys datum))
         → Steps (at_ephe s (block_in s d r) f)
-    at_keys f each = go (block_in s d r) refl
-      where
-        go : (b : Option (Label × Node)) → block_in s d r ≡ b → Steps (at_ephe s b f)
-        go None e = answers BadType refl
-        go (Some (k, Plain tag fields)) e = answers BadType refl
-        go (Some (k, Raw tag fields)) e = answers BadType refl
-        go (Some (k, Ephe keys datum)) e = each k keys datum e
+    at_keys = ephe_each Steps s (answers BadType refl) d r
 
     key_read : (dst index : ℕ) → Steps (outcome s d (GetKey dst r index))
     key_read dst index = at_keys _ (λ k keys datum e. within (slice_get keys index) _ (λ key at. reads d dst (key_value key) (cell_read k (Ephe keys datum) (Key index) (key_value key) e

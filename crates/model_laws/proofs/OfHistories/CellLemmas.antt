@@ -28,6 +28,7 @@ use Rattle.model_core.proofs.Commands.FrameLemmas.{not_same}
 use Rattle.model_core.proofs.Commands.MoveLemmas.{moved, held_block}
 use Rattle.model_core.proofs.Histories.NumberLemmas.{next_label-new, node_at-no_label, numbered_next, numbered_opening}
 use Rattle.model_laws.specs.Histories.Cells.{Cell, Field, Key, Datum, initial, cell_of, content, is_carried_out, to_field, to_key, to_datum, command_writes, wipe_writes, writes, last_written_from, CellsHoldLastWritten}
+use Rattle.model_core.proofs.Commands.OutcomeLemmas.{bounds_each, ephe_each}
 
 -- what a cell of a block holds
 abbrev pub held : Cell → Node → Value
@@ -198,8 +199,7 @@ module _ (s : State) (l : Label) (cell : Cell) where
     refused = kept (is_label l k) w (content s.graph l cell)
 
     within : {A : Type 0} (o : Option A) (f : A → Outcome) → ((a : A) → o ≡ Some a → Leaves (f a) k w) → Leaves (in_bounds s o f) k w
-    within None f each = refused
-    within (Some a) f each = each a refl
+    within = bounds_each (λ o. Leaves o k w) s refused
 
   module _ (d r : ℕ) (w : Option Value) where
     writes_block : (k : Label) (old new : Node) → block_in s d r ≡ Some (k, old) → held cell new ≡ unwrap_or w (held cell old) → Leaves (done_with (with_block s k new)) (label_in s d r) w
@@ -212,13 +212,7 @@ module _ (s : State) (l : Label) (cell : Cell) where
     at_keys : (f : Label → List (Option Label) → Value → Outcome)
         → ((k : Label) (keys : List (Option Label)) (datum : Value) → block_in s d r ≡ Some (k, Ephe keys datum) → Leaves (f k keys datum) (label_in s d r) w)
         → Leaves (at_ephe s (block_in s d r) f) (label_in s d r) w
-    at_keys f each = go (block_in s d r) refl
-      where
-        go : (b : Option (Label × Node)) → block_in s d r ≡ b → Leaves (at_ephe s b f) (label_in s d r) w
-        go None e = refused (label_in s d r) w
-        go (Some (k, Plain tag fields)) e = refused (label_in s d r) w
-        go (Some (k, Raw tag fields)) e = refused (label_in s d r) w
-        go (Some (k, Ephe keys datum)) e = each k keys datum e
+    at_keys = ephe_each (λ o. Leaves o (label_in s d r) w) s (refused (label_in s d r) w) d r
 
   -- a store, and a compare-and-set
   module _ (d r index : ℕ) (v : Value) (f : Label → Node → Value → Outcome)

@@ -39,6 +39,7 @@ use Rattle.model_laws.specs.Histories.Cells.{Cell, Field, Key, Datum, initial, c
 use Rattle.model_laws.specs.Histories.Lost.{IsNeverSeen, LostIsNeverSeen, UncountedIsNeverSeen, is_taking, EmptiedIsNeverSeen, TakenIsNeverSeen, MarksHoldAllLeft}
 use Rattle.model_laws.proofs.OfHistories.CellLemmas.{held}
 use Rattle.model_laws.proofs.OfHistories.SplitLemmas.{legal_first, legal_rest, has_first, has_cons_option, value_has, domain_has}
+use Rattle.model_core.proofs.Reach.OpenedLemmas.{edges_opened, keys_labels, node_opened, opened_closed as closed_under_opened}
 use Rattle.model_laws.proofs.OfHistories.ApartLemmas.{IsApart, IsOut, IsKnownOut, never_seen}
 
 -- a list of labels as a graph
@@ -92,22 +93,6 @@ module _ (s : State) (live : List Label) (holds : HoldsRoots (settled_roots s (q
 labels_opened : (g : Graph) → labels (opened g) ≡ labels g
 labels_opened [] = refl
 labels_opened (e ∷ g) = ap (λ t. e.0 ∷ t) (labels_opened g)
-
-node_opened : (g : Graph) (l : Label) → node_at (opened g) l ≡ option_map opened_node (node_at g l)
-node_opened [] l = refl
-node_opened (e ∷ g) l = go (same_label e.0 l) (node_opened g l)
-  where
-    go : (b : Bool) → node_at (opened g) l ≡ option_map opened_node (node_at g l) → cond b (Some (opened_node e.1)) (node_at (opened g) l) ≡ option_map opened_node (cond b (Some e.1) (node_at g l))
-    go true rest = refl
-    go false rest = rest
-
-keys_labels : (keys : List (Option Label)) → filter_map label_of (map key_value keys) ≡ filter_map (λ k. k) keys
-keys_labels [] = refl
-keys_labels (None ∷ keys) = keys_labels keys
-keys_labels (Some k ∷ keys) = ap (λ t. k ∷ t) (keys_labels keys)
-
-edges_opened : (g : Graph) (alive : Label → Bool) (x : Label) → edges_at (opened g) alive x ≡ option_map_or (edges_of alive) (option_map opened_node (node_at g x)) []
-edges_opened g alive x = ap (λ (o : Option Node). option_map_or (edges_of alive) o []) (node_opened g x)
 
 -- what an opened block keeps alive has nodes, where what it names has
 node_edges_named : (g : Graph) (alive : Label → Bool) (n : Node) → HaveNodes g (names_of n) → HaveNodes g (edges_of alive (opened_node n))
@@ -373,34 +358,8 @@ emptied_law z h a k e places i b legal takes at some =
     (subst (λ (u : State). IsTrue (has_label (labels u.graph) b)) (sym here) there)
     (subst (λ (u : State). has_label (reach u) b ≡ false) (sym here) unreached))
 
--- marks that hold what waits and the keys of what they hold are closed over the opened graph
-module _ (s : State) (marked : Label → Bool) (marks : IsMarked s (queues s) marked)
-    (keys : (x k : Label) → IsTrue (marked x) → IsTrue (has_label (full_keys (node_at s.graph x)) k) → IsTrue (marked k)) where
-  marked_node : (x y : Label) (o : Option Node) → IsTrue (marked x) → node_at s.graph x ≡ o → IsTrue (has_label (option_map_or (edges_of marked) (option_map opened_node o) []) y) → IsTrue (marked y)
-  marked_node x y None there at h = cc
-  marked_node x y (Some (Plain tag fields)) there at h = marks.closed x y there (subst (λ (o : Option Node). IsTrue (has_label (option_map_or (edges_of marked) o []) y)) (sym at) h)
-  marked_node x y (Some (Raw tag fields)) there at h = cc
-  marked_node x y (Some (Ephe ks datum)) there at h =
-      let mine : HoldsRoots (filter_map (λ k. k) ks) marked = λ k a. keys x k there (subst (λ o. IsTrue (has_label (full_keys o) k)) (sym at) a) in
-      let split : cons_option (label_of datum) (filter_map label_of (map key_value ks)) ≡ cons_option (label_of datum) (filter_map (λ k. k) ks) = ap (cons_option (label_of datum)) (keys_labels ks) in
-      go (label_of datum) refl mine (subst (λ z. IsTrue (has_label z y)) split h)
-    where
-      go : (o : Option Label) → label_of datum ≡ o → HoldsRoots (filter_map (λ k. k) ks) marked → IsTrue (has_label (cons_option o (filter_map (λ k. k) ks)) y) → IsTrue (marked y)
-      go None e mine h = mine y h
-      go (Some k) e mine h = ⊎_elim
-          (λ here.
-          let kept : IsTrue (has_label (edges_of marked (Ephe ks datum)) y) =
-          subst (λ b. IsTrue (has_label (cond b (option_to_list (label_of datum)) []) y)) (sym (keys_all marked ks mine))
-          (subst (λ (o : Option Label). IsTrue (has_label (option_to_list o) y)) (sym e) (or_left (same_label k y) false here)) in
-          marks.closed x y there (subst (λ (o : Option Node). IsTrue (has_label (option_map_or (edges_of marked) o []) y)) (sym at) kept))
-          (λ later. mine y later)
-          (or_cases (same_label k y) (has_label (filter_map (λ k. k) ks) y) h)
-
-  marked_closed : IsClosedUnder (opened s.graph) marked
-  marked_closed x y there h = marked_node x y (node_at s.graph x) there refl (subst (λ z. IsTrue (has_label z y)) (edges_opened s.graph marked x) h)
-
 pub marks_law : MarksHoldAllLeft
-marks_law s marked marks lasts keys = reachable_least (opened s.graph) marked (marked_closed s marked marks keys) (settled_roots s (queues s) ++ last_labels s)
+marks_law s marked marks lasts keys = reachable_least (opened s.graph) marked (closed_under_opened s.graph marked marks.closed keys) (settled_roots s (queues s) ++ last_labels s)
     (λ k h. ⊎_elim
     (λ a. ⊎_elim (λ b. marks.roots k b) (λ c. marks.waiting k c) (has-append_cases (roots s (queues s)) (waiting s) k a))
     (λ d. lasts k d)

@@ -19,6 +19,7 @@ use Rattle.model_laws.specs.Histories.Cells.{Cell, Field, Key, Datum, content, w
 use Rattle.model_laws.specs.Histories.Reads.{Answers, ReadsAnswerLastWritten, IsWrittenIn, WritesAreSeen}
 use Rattle.model_laws.proofs.OfHistories.CellLemmas.{held, content_is, cell_next, cells_law}
 use Rattle.model_laws.proofs.OfHistories.SplitLemmas.{legal_first, legal_rest}
+use Rattle.model_core.proofs.Commands.OutcomeLemmas.{bounds_each, ephe_each}
 
 module _ (s : State) (d r : ℕ) (l : Label) (is : label_in s d r ≡ Some l) where
   -- the block in the register is this one
@@ -30,8 +31,7 @@ module _ (s : State) (d r : ℕ) (l : Label) (is : label_in s d r ≡ Some l) wh
       sym (content_is s.graph k n cell at.node) ∙ ap (λ x. content s.graph x cell) same
 
   within : {A : Type 0} (o : Option A) (f : A → Outcome) (v : Value) → ((a : A) → o ≡ Some a → Answers (f a).reply v) → Answers (in_bounds s o f).reply v
-  within None f v each = inl refl
-  within (Some a) f v each = each a refl
+  within o f v = bounds_each (λ a. Answers a.reply v) s (inl refl) o f
 
   loads : (dst i : ℕ) (b : Option (Label × Node)) → block_in s d r ≡ b → Answers (loaded s d dst i b).reply (content s.graph l (Field i))
   loads dst i None e = inl refl
@@ -43,13 +43,7 @@ module _ (s : State) (d r : ℕ) (l : Label) (is : label_in s d r ≡ Some l) wh
 
   at_keys : (f : Label → List (Option Label) → Value → Outcome) (v : Value) → ((k : Label) (keys : List (Option Label)) (datum : Value) → block_in s d r ≡ Some (k, Ephe keys datum) → Answers (f k keys datum).reply v)
       → Answers (at_ephe s (block_in s d r) f).reply v
-  at_keys f v each = go (block_in s d r) refl
-    where
-      go : (b : Option (Label × Node)) → block_in s d r ≡ b → Answers (at_ephe s b f).reply v
-      go None e = inl refl
-      go (Some (k, Plain tag fields)) e = inl refl
-      go (Some (k, Raw tag fields)) e = inl refl
-      go (Some (k, Ephe keys datum)) e = each k keys datum e
+  at_keys f v = ephe_each (λ a. Answers a.reply v) s (inl refl) d r f
 
   gets_key : (dst i : ℕ) → Answers (outcome s d (GetKey dst r i)).reply (content s.graph l (Key i))
   gets_key dst i = at_keys _ (content s.graph l (Key i)) (λ k keys datum e. within (slice_get keys i) _ (content s.graph l (Key i)) (λ key at.

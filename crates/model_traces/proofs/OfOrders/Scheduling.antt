@@ -41,7 +41,7 @@ domains_itself : (xs : List DomainState) → AreSameDomains xs xs
 domains_itself [] = tt
 domains_itself (x ∷ xs) = (record { registers = refl; serial = refl; ended = refl; finals = refl; lasts = refl; queue = refl; fresh = refl; due = refl }, domains_itself xs)
 
-same_itself : (s : State) → IsSameBut s s
+pub same_itself : (s : State) → IsSameBut s s
 same_itself s = record {
   alive = λ l. true;
   held = record { roots = all_alive (settled_roots s (queues s)); nodes = λ l n alive at. all_alive (names_of n) };

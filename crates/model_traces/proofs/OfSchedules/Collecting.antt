@@ -26,7 +26,7 @@ use Rattle.model_core.specs.WellFormed.{names_of}
 use Rattle.model_core.proofs.Collections.CutLemmas.{collected_settled, holds_after, is_collecting, pending_labels}
 use Rattle.model_core.proofs.Collections.MarkLemmas.{all_labels}
 use Rattle.model_core.proofs.Histories.HistoryLemmas.{replies_from-append, replies_from-others, state_after-append}
-use Rattle.model_core.proofs.Histories.NumberLemmas.{node_at-no_label}
+use Rattle.model_core.proofs.Histories.NumberLemmas.{no_label, node_at-no_label}
 use Rattle.model_core.proofs.Reach.ReachLemmas.{Within, has-append_cases, has-append_left, has-append_right, never_true, or_cases, reachable_roots}
 use Rattle.model_core.proofs.Graphs.GraphLemmas.{same_label-true}
 use Rattle.model_traces.specs.Schedules.Sameness.{AllAlive, AreSameDomains, CollectionLaw, IsSameBut, IsSameDomain, is_answer, is_queue, is_taking}
@@ -36,7 +36,7 @@ use Rattle.model_traces.proofs.OfSchedules.Alive.{all_first}
 use Rattle.model_traces.proofs.OfSchedules.Keeping.{domains_stay, labels_stay, queued_leaves, same_points, taken_keeps, taken_leaves}
 use Rattle.model_traces.proofs.OfSchedules.Lasting.{IsLastsFrom, all_is_taking, all_lasts_from, all_lasts_graph}
 use Rattle.model_traces.proofs.OfSchedules.Labelled.{labels_ordered}
-use Rattle.model_traces.proofs.OfSchedules.Moving.{has_node, no_label, same_domain}
+use Rattle.model_traces.proofs.OfSchedules.Moving.{has_node, same_domain}
 use Rattle.model_traces.proofs.OfSchedules.Queueing.{IsQueuedFrom, all_is_queue}
 use Rattle.model_traces.proofs.OfSchedules.Queues.{at_cut, dead_in, queues_during, queues_known}
 use Rattle.model_traces.proofs.OfSchedules.Reaching.{all_from, holds_none, reached_names, taken_reach, taken_reached, taken_registers, waits_at}

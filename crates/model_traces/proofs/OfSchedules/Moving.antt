@@ -16,7 +16,7 @@ use Rattle.model_core.specs.Commands.{Outcome, allocated, block_in, with_final, 
 use Rattle.model_core.specs.WellFormed.{names_of}
 use Rattle.model_core.proofs.Graphs.GraphLemmas.{labels-with_node, node_at-append_cases, node_at-with_node_cases, node_at-with_node_other, node_at-with_node_same, same_label-true, same_label_refl}
 use Rattle.model_core.proofs.Histories.WellFormedLemmas.{labels-append}
-use Rattle.model_core.proofs.Histories.NumberLemmas.{node_at-no_label}
+use Rattle.model_core.proofs.Histories.NumberLemmas.{no_label, node_at-no_label}
 use Rattle.model_core.proofs.Reach.ReachLemmas.{or_cases, or_left, or_right}
 use Rattle.model_traces.specs.Schedules.Sameness.{AllAlive, IsSameBut, IsSameDomain}
 use Rattle.model_traces.proofs.OfSchedules.Alive.{all_at, all_map_push, all_set, all_weaker}
@@ -117,15 +117,7 @@ module _ (s t : State) (same : IsSameBut s t) where
       kept = same.kept;
     }
 
--- a label without a node is none of the graph's, and one with a node is
-pub no_label : (g : Graph) (l : Label) → node_at g l ≡ None → has_label (labels g) l ≡ false
-no_label [] l e = refl
-no_label (x ∷ g) l e = go (same_label x.0 l) (no_label g l) e
-  where
-    go : (b : Bool) → (node_at g l ≡ None → has_label (labels g) l ≡ false) → cond b (Some x.1) (node_at g l) ≡ None → (b || has_label (labels g) l) ≡ false
-    go true rest e = cc
-    go false rest e = rest e
-
+-- a label with a node is one of the graph's
 pub has_node : (g : Graph) (l : Label) (n : Node) → node_at g l ≡ Some n → has_label (labels g) l ≡ true
 has_node [] l n e = cc
 has_node (x ∷ g) l n e = go (same_label x.0 l) (has_node g l n) e

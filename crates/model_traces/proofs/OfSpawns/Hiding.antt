@@ -24,6 +24,7 @@ use Rattle.model_core.proofs.Reach.ReachLemmas.{and_both}
 use Rattle.model_core.proofs.Commands.MoveLemmas.{held_block}
 use Rattle.model_core.proofs.Commands.FrameLemmas.{part_set}
 use Rattle.model_traces.specs.Spawns.Hidden.{hidden, scratch, is_plain}
+use Rattle.model_core.proofs.Commands.OutcomeLemmas.{bounds_each, ephe_each, tells_each}
 
 -- whether a value, a key, a block, a registration and a queued finaliser are none of this label
 abbrev pub is_other : Label → Value → Bool
@@ -199,12 +200,10 @@ pub record Moves (P : State → Type 0) (h : Label) (s : State) (d : ℕ) : Type
 
 module _ (P : State → Type 0) (h : Label) (s : State) (hides : Hides h s) (d : ℕ) (m : Moves P h s d) where
   within : {A : Type 0} (o : Option A) (f : A → Outcome) → ((a : A) → o ≡ Some a → P (f a).state) → P (in_bounds s o f).state
-  within None f each = m.same
-  within (Some a) f each = each a refl
+  within = bounds_each (λ o. P o.state) s m.same
 
   told : (b : Bool) → P (tells s b).state
-  told true = m.same
-  told false = m.same
+  told = tells_each (λ o. P o.state) s m.same m.same
 
   -- the block in a register
   module _ (r : ℕ) where
@@ -221,13 +220,8 @@ module _ (P : State → Type 0) (h : Label) (s : State) (hides : Hides h s) (d :
 
     at_keys : (f : Label → List (Option Label) → Value → Outcome)
         → ((l : Label) (keys : List (Option Label)) (datum : Value) → IsTrue (list_all (is_other_key h) keys) → IsTrue (is_other h datum) → P (f l keys datum).state) → P (at_ephe s (block_in s d r) f).state
-    at_keys f each = go (block_in s d r) refl
-      where
-        go : (b : Option (Label × Node)) → block_in s d r ≡ b → P (at_ephe s b f).state
-        go None e = m.same
-        go (Some (l, Plain tag fields)) e = m.same
-        go (Some (l, Raw tag fields)) e = m.same
-        go (Some (l, Ephe keys datum)) e = let both = and_parts (list_all (is_other_key h) keys) (is_other h datum) (node_in l (Ephe keys datum) e) in each l keys datum both.0 both.1
+    at_keys f each = ephe_each (λ o. P o.state) s m.same d r f (λ l keys datum e.
+        let both = and_parts (list_all (is_other_key h) keys) (is_other h datum) (node_in l (Ephe keys datum) e) in each l keys datum both.0 both.1)
 
     writes_field : (f : Label → Node → Value → Outcome) → ((l : Label) (new : Node) (held : Value) → P (with_block s l new) → P (f l new held).state)
         → (index : ℕ) (b : Option (Label × Node)) (v : Value) → block_in s d r ≡ b → IsTrue (is_other h v) → P (at_field s index b v f).state

@@ -10,6 +10,7 @@ use Rattle.model_core.proofs.Reach.ReachLemmas.{and_both, or_left, or_right}
 use Rattle.model_traces.specs.Spawns.Hidden.{hidden, scratch, flag_of, argument_of, result_of, is_plain}
 use Rattle.model_traces.specs.Spawns.Expansion.{Step, Each, is_int, flag_load, IsStart, IsJoin, Make, spawn_commands, finish_commands, IsExpansion, AreExpansions, IsSection, is_spawn_of, IsFitting, AreFitting}
 use Rattle.model_traces.proofs.OfSpawns.Hiding.{is_discreet}
+use Rattle.model_traces.proofs.OfSpawns.Printing.{differ}
 
 -- how far a section has come: whether its start was seen, whether it told its end, and its last step
 pub record Phase : Type 0 where
@@ -125,13 +126,6 @@ abbrev item_in : Command → ℕ
 item_in (Store block index item) = item
 item_in (Load dst src index) = dst
 item_in _ = 0
-
-differ : (a b : ℕ) → a ≢ b → (a == b) ≡ false
-differ a b other = go (a == b) refl
-  where
-    go : (c : Bool) → (a == b) ≡ c → c ≡ false
-    go true e = absurd (other (eqb-true a b e))
-    go false e = refl
 
 quiet_put : (d : ℕ) (n : ℤ) → IsQuiet d (PutInt scratch n)
 quiet_put d n = record { discreet = refl; no_flag = λ i item lt is. cc; results = λ i item is. absurd (let clash : PutInt scratch n ≡ Store hidden (result_of i) item = is in cc); no_take = λ dst i is. cc; no_finish = refl }

@@ -41,6 +41,14 @@ plain_printed d (Store block index item) all =
     store_printed d block index item (below_scratch block (item ∷ []) all) (below_scratch item [] (and_parts (nat_lt block scratch) (list_all (λ k. nat_lt k scratch) (item ∷ [])) all).1)
 plain_printed d c all = refl
 
+-- two numbers that differ
+pub differ : (a b : ℕ) → a ≢ b → (a == b) ≡ false
+differ a b other = go (a == b) refl
+  where
+    go : (c : Bool) → (a == b) ≡ c → c ≡ false
+    go true e = absurd (other (eqb-true a b e))
+    go false e = refl
+
 argument_silent : (d section item : ℕ) → section < 8 → is_printed d (Store hidden (argument_of section) item) ≡ false
 argument_silent d section item lt =
     let first : nat_lt (argument_of section) (argument_of 0) ≡ false = grind (arith, nat_tests) in
@@ -51,13 +59,6 @@ flag_printed : (d section : ℕ) → section < 8 → section ≢ d → is_printe
 flag_printed d section lt other =
     let first : nat_lt section (argument_of 0) ≡ true = grind (arith, nat_tests) in
     ap (λ (b : Bool). if b then not (section == flag_of d) else not (nat_lt section (result_of 0))) first ∙ ap not (differ section d other)
-  where
-    differ : (a b : ℕ) → a ≢ b → (a == b) ≡ false
-    differ a b other = go (a == b) refl
-      where
-        go : (c : Bool) → (a == b) ≡ c → c ≡ false
-        go true e = absurd (other (eqb-true a b e))
-        go false e = refl
 
 finish_silent : (d : ℕ) → d < 8 → is_printed d (Store hidden (flag_of d) scratch) ≡ false
 finish_silent d lt =

@@ -32,7 +32,7 @@ use Rattle.heap_rule.specs.Views.{one}
 use Rattle.heap_rule.specs.Rule.{state_of, Rule}
 use Rattle.heap_rule.specs.Standing.{Acts}
 use Rattle.heap_rule.proofs.Keeps.{Words, mine, my_good, no_cycle_here}
-use Rattle.heap_rule.proofs.HistorySizes.{sizes_after}
+use Rattle.model_core.proofs.Histories.SizesLemmas.{sizes_after}
 use Rattle.step_run.specs.Fields.Ticks.{IsUsedUp}
 
 -- the domain that has a pool

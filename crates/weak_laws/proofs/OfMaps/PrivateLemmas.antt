@@ -44,6 +44,7 @@ use Rattle.weak_laws.proofs.OfMaps.FieldLemmas.{plain_is}
 use Rattle.weak_laws.proofs.OfMaps.FrontLemmas.{prefix_same, prefix_more, walk_along, other_between}
 use Rattle.weak_laws.proofs.OfMaps.ReachLemmas.{field_named}
 use Rattle.weak_laws.proofs.OfMaps.RespectLemmas.{collector_spares, allowed_at, outside_wider, state_push, graph_push}
+use Rattle.model_core.proofs.Commands.OutcomeLemmas.{bounds_each, ephe_each, tells_each}
 
 -- which register's label a command may write into a block, or register
 abbrev pub is_item : Command → ℕ → Bool
@@ -69,12 +70,10 @@ record Moves (P : State → Type 0) (g : Graph) (s : State) (k : ℕ) : Type 0 w
 
 module _ (P : State → Type 0) (g : Graph) (s : State) (k : ℕ) (nodes : (m : Label) (n : Node) → node_at s.graph m ≡ Some n → HaveNodes g (names_of n)) (m : Moves P g s k) where
   within : {A : Type 0} (o : Option A) (f : A → Outcome) → ((a : A) → o ≡ Some a → P (f a).state) → P (in_bounds s o f).state
-  within None f each = m.same
-  within (Some a) f each = each a refl
+  within = bounds_each (λ o. P o.state) s m.same
 
   told : (b : Bool) → P (tells s b).state
-  told true = m.same
-  told false = m.same
+  told = tells_each (λ o. P o.state) s m.same m.same
 
   module _ (r : ℕ) where
     node_named : (l : Label) (n : Node) → block_in s k r ≡ Some (l, n) → HaveNodes g (names_of n)
@@ -88,13 +87,7 @@ module _ (P : State → Type 0) (g : Graph) (s : State) (k : ℕ) (nodes : (m : 
 
     at_keys : (f : Label → List (Option Label) → Value → Outcome)
         → ((l : Label) (keys : List (Option Label)) (datum : Value) → block_in s k r ≡ Some (l, Ephe keys datum) → P (f l keys datum).state) → P (at_ephe s (block_in s k r) f).state
-    at_keys f each = go (block_in s k r) refl
-      where
-        go : (b : Option (Label × Node)) → block_in s k r ≡ b → P (at_ephe s b f).state
-        go None e = m.same
-        go (Some (l, Plain tag fields)) e = m.same
-        go (Some (l, Raw tag fields)) e = m.same
-        go (Some (l, Ephe keys datum)) e = each l keys datum e
+    at_keys = ephe_each (λ o. P o.state) s m.same k r
 
     module _ (f : Label → Node → Value → Outcome) (each : (l : Label) (new : Node) (held : Value) → P (with_block s l new) → P (f l new held).state) where
       writes_field : (index : ℕ) (b : Option (Label × Node)) (v : Value) → block_in s k r ≡ b → HaveNodes g (option_to_list (label_of v)) → P (at_field s index b v f).state

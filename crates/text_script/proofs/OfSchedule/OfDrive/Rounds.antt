@@ -17,13 +17,14 @@ use Rattle.model_core.specs.Domains.{domain_at, no_domain, opening, opening_doma
 use Rattle.model_core.specs.Entries.{after_run, next, wiped, with_finals_open, with_lasts_open, with_wiped, freshened}
 use Rattle.model_core.specs.History.{Legal, state_after}
 use Rattle.model_core.specs.WellFormed.{names_of}
-use Rattle.model_core.proofs.Commands.MoveLemmas.{keeps_outcome}
 use Rattle.model_core.specs.Commands.{outcome}
 use Rattle.model_core.proofs.Histories.HistoryLemmas.{state_after-append}
+use Rattle.model_core.proofs.Histories.SizesLemmas.{count_begun}
 use Rattle.model_traces.specs.declared.schedules.items.Item.{Item}
 use Rattle.model_traces.specs.declared.schedules.items.Item.TheVariants.{Collect, Turn}
 use Rattle.model_traces.specs.Schedules.Sameness.{AllAlive, AreSameDomains, IsCollection, IsSameBut}
 use Rattle.model_traces.specs.Schedules.Scheduled.{Played, all_ended, begun, complete, domains_of, left_of, next_entries, take_item, take_round, take_turn, turn_on, with_entries}
+use Rattle.model_traces.proofs.OfOrders.Scheduling.{same_itself}
 use Rattle.model_traces.proofs.OfSchedules.Sealing.{many_same}
 use Rattle.text_script.specs.Schedule.Drive.Together.{AllHave, AllRuns, Has, IsShared, OneRun, Rests, Stands}
 use Rattle.text_script.specs.Schedule.Drive.Pausing.{Answered, NotYet, Paused, Walked, lefts}
@@ -40,36 +41,6 @@ fold_last f x a (suc n) = fold_last f (f x a) (a + 1) n ∙ ap (f (fold f (f x a
 
 pub one_more_number : {A : Type 0} (f : A → ℕ → A) (x : A) (n : ℕ) → fold f x (range_with_len 0 (n + 1)) ≡ f (fold f x (range_with_len 0 n)) n
 one_more_number f x n = ap (λ k. fold f x (range_with_len 0 k)) (add-one n) ∙ fold_last f x 0 n ∙ ap (f (fold f x (range_with_len 0 n))) (zero-add n)
-
--- each history leaves as many domains
-wiped_many : (s : State) (l : Label) (o : Option Node) → length (with_wiped s l o).domains ≡ length s.domains
-wiped_many s l None = refl
-wiped_many s l (Some n) = refl
-
-ran_many : (s : State) (d : ℕ) (queue : List Pending) → length (after_run s d queue).domains ≡ length s.domains
-ran_many s d [] = refl
-ran_many s d (Fin number l r ∷ rest) = length-set (set s.domains d _) d _ ∙ length-set s.domains d _
-ran_many s d (LastPending number ∷ rest) = length-set s.domains d _
-
-many_next : (s : State) (e : Entry) → length (next s e).domains ≡ length s.domains
-many_next s (CommandOf d c true) = length-set s.domains d _
-many_next s (CommandOf d c false) = length-set (outcome s d c).state.domains d _ ∙ keeps_outcome (λ t. length t.domains ≡ length s.domains) (λ t e x q. length-set t.domains e x ∙ q) (λ t g n q. q) s refl d c
-many_next s (End d) = length-set s.domains d _
-many_next s Cut = length-map s.domains with_finals_open
-many_next s (Queue d places) = length-set s.domains d _
-many_next s Seal = length-map s.domains with_lasts_open
-many_next s (Wipe l keys) = wiped_many s l (wiped keys (node_at s.graph l))
-many_next s (Last d place) = length-set s.domains d _
-many_next s Collected = length-map s.domains freshened
-many_next s Done = refl
-many_next s (Ran d) = ran_many s d (domain_at s d).queue
-
-many_after : (s : State) (h : List Entry) → length (state_after s h).domains ≡ length s.domains
-many_after s [] = refl
-many_after s (e ∷ h) = many_after (next s e) h ∙ many_next s e
-
-many_begun : (z : Sizes) (h : List Entry) → length (state_after (opening z) h).domains ≡ z.domains
-many_begun z h = many_after (opening z) h ∙ length-replicate z.domains opening_domain
 
 -- the state of the scheduled history, through turns and items
 entries_played : (z : Sizes) (p : Played) (es : List Entry) → IsPlayed z p → IsPlayed z (with_entries p es)
@@ -107,7 +78,7 @@ rounds_played z p (n ∷ ns) is = rounds_played z (take_round p) ns (turns_playe
 
 -- a round is a turn of so many domains
 pub round_is : (z : Sizes) (p : Played) → IsPlayed z p → fold take_turn p (range_with_len 0 z.domains) ≡ take_round p
-round_is z p is = ap (λ n. fold take_turn p (range_with_len 0 n)) (sym (many_begun z p.history) ∙ ap (λ (s : State). length s.domains) is)
+round_is z p is = ap (λ n. fold take_turn p (range_with_len 0 n)) (sym (count_begun z p.history) ∙ ap (λ (s : State). length s.domains) is)
 
 -- whether all traces have ended
 all_by_place : (xs : List DomainState) → ((k : ℕ) → (get_or xs k no_domain).ended ≡ true) → list_all (λ (x : DomainState). x.ended) xs ≡ true
@@ -128,7 +99,7 @@ module _ (v : AllRuns) (p : Played) (h : List Entry) (stands : Stands v) (shared
   all_have_ended all = all_by_place p.state.domains (λ k.
       ⊎_elim (λ few. ended_is v p k true h few (all k) shared agrees)
       (λ past. ap (λ (x : DomainState). x.ended) (get_or_past p.state.domains k no_domain
-      (subst (λ n. n ≤ k) (stands.count ∙ sym (many_begun v.sizes h) ∙ sym (many_same (state_after (opening v.sizes) h) p.state agrees.same)) past)))
+      (subst (λ n. n ≤ k) (stands.count ∙ sym (count_begun v.sizes h) ∙ sym (many_same (state_after (opening v.sizes) h) p.state agrees.same)) past)))
       (cases_lt k (length v.runs)))
 
   pub some_goes_on : (d : ℕ) → d < length v.runs → Has (λ (x : OneRun). x.ended) false v d → all_ended p.state ≡ false
@@ -175,27 +146,6 @@ module _ (shares_old shares_new : List Entry → Type 0) (v w : AllRuns) (calm :
       let after : Agrees v.sizes q (from.start ++ from.made) = agrees_collection v.sizes p from.start from.made [] a legal walked in
       subst (λ r. Follows w r g) is
       (record { agrees = subst (λ z. Agrees z q g) (sym paused.sizes) (subst (λ k. Agrees v.sizes q k) (sym from.is) after); left = n.left ∙ f.left })
-
--- a state is the same as itself
-all_alive : (ls : List Label) → AllAlive (λ l. true) ls
-all_alive [] = tt
-all_alive (l ∷ ls) = (refl, all_alive ls)
-
-domains_itself : (xs : List DomainState) → AreSameDomains xs xs
-domains_itself [] = tt
-domains_itself (x ∷ xs) = (record { registers = refl; serial = refl; ended = refl; finals = refl; lasts = refl; queue = refl; fresh = refl; due = refl }, domains_itself xs)
-
-same_itself : (s : State) → IsSameBut s s
-same_itself s = record {
-  alive = λ l. true;
-  held = record { roots = all_alive (settled_roots s (queues s)); nodes = λ l n alive at. all_alive (names_of n) };
-  nodes = λ l alive. refl;
-  labels_same = refl;
-  domains = domains_itself s.domains;
-  sizes = refl;
-  mode = refl;
-  kept = refl;
-}
 
 -- the start
 pub begins : (shares : List Entry → Type 0) (v : AllRuns) → ((h : List Entry) → shares h → h ≡ []) → AllFollow v shares (begun v.sizes (lefts v))
