@@ -162,7 +162,7 @@ impl Domain {
     /// they are always as many.
     pub fn remembered_len(&self) -> usize
         ensures value { result ≡ length self.now.view.own.remembered.items }
-        ensures whole { self.now.view.own.remembered.room + length self.now.view.own.remembered.items ≡ REMEMBERED_ROOM }
+        ensures whole { let list = self.now.view.own.remembered in list.room + length list.items ≡ REMEMBERED_ROOM }
     {
         self.own.remembered.len()
     }

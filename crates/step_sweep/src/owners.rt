@@ -1,7 +1,5 @@
 //! Who owns a pool.
-ghost use Rattle.std.specs.Prelude.{◌≢◌, ◌≡◌, ◌<◌, ℕ, MatchOption};
-ghost use Rattle.model_core.specs.Domains.{class_count};
-ghost use Rattle.heap_rule.specs.Pools.{owned, owner_word as word_of};
+ghost use Rattle.step_sweep.specs.Owners.{TellsClass};
 
 use heap_words::classes::CLASS_COUNT;
 use step_pools::owner_word;
@@ -11,7 +9,7 @@ pub const OWNERS: u32 = 11;
 
 /// The class of the domain's pool whose owner word this is. `None` exactly where the pool isn't its.
 pub fn own_class(word: u64, domain: u32) -> Option<u32>
-    ensures { MatchOption result ((class : ℕ) → class < class_count → word ≢ word_of (owned domain class)) (λ class. (class < class_count) × (word ≡ word_of (owned domain class))) }
+    ensures { TellsClass word domain result }
 {
     let first = owner_word(domain, 0);
     if word < first || word - first >= CLASS_COUNT as u64 {
