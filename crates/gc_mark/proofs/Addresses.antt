@@ -1,5 +1,5 @@
 -- Looks at addresses at which grey blocks may begin.
-use Rattle.std.proofs.Common.{◌≡◌, ℕ, ◌+◌, ◌-◌, ◌*◌, ◌/◌, ◌%◌, ◌<◌, ◌≤◌, ◌≢◌, ◌⊎◌, arith, inl, inr, ⊎_elim, sym, refl, ap, subst, ◌∙◌}
+use Rattle.std.proofs.Common.{◌≡◌, ℕ, Bool, false, cond, ◌+◌, ◌-◌, ◌*◌, ◌/◌, ◌%◌, ◌<◌, ◌≤◌, ◌≢◌, ◌⊎◌, arith, inl, inr, ⊎_elim, sym, refl, ap, subst, ◌∙◌}
 use Rattle.std.proofs.lemmas.Bool.{cases_lt}
 use Rattle.std.proofs.lemmas.Nat.{div-mul-add, mod-mul-add}
 use Rattle.model_core.specs.Domains.{class_count}
@@ -7,14 +7,16 @@ use Rattle.heap_words.specs.declared.colours.Colours.{Colours}
 use Rattle.heap_words.specs.ColourWords.{IsPermutation}
 use Rattle.heap_rule.specs.declared.config.Config.{Config}
 use Rattle.heap_rule.specs.declared.view.DomainView.{DomainView}
+use Rattle.heap_rule.specs.declared.view.Known.{Known}
 use Rattle.heap_rule.specs.declared.view.Known.TheVariants.{Pool, Shape as Shaped, Vain}
 use Rattle.heap_rule.specs.Pools.{blocks_of, owned, owner_word, size_of}
 use Rattle.heap_rule.specs.Standing.{IsInHeap}
 use Rattle.heap_rule.proofs.Classes.{size_least, slot_inside}
 use Rattle.step_marks.specs.Marking.Marking.{IsGrey, IsScanned, IsUnmarked}
 use Rattle.step_marks.specs.Beside.Marking.{Begins, PlaceMay, PlaceTold, PoolMay, PoolTold, learning}
+use Rattle.do_fields.specs.Darkening.Aware.{darkened_in, scanned_in, tells_darkening, tells_scan}
 use Rattle.do_fields.proofs.OfDarkening.Exchanges.{one_meaning}
-use Rattle.gc_mark.specs.Slices.{BeginsHere, BeginsNowhere, LookedAtHint, Slices}
+use Rattle.gc_mark.specs.Slices.{BeginsHere, BeginsNowhere, FoundGrey, FoundNone, LookedAtHint, Slices}
 use Rattle.gc_mark.proofs.Visits.{not_passed}
 
 -- no block begins at an address that is at no place
@@ -95,6 +97,18 @@ vain_looked colours x y at p e = subst (LookedAtHint colours at x 0) (sym e) rec
   told = inl record { none = λ g. not_passed colours 0 p g (inl refl); known = inl refl; vain = refl };
 }
 
+-- a look that tells one thing more, behind what the pool is
+place_learnt : (colours : Colours) (x : DomainView) (at pool class word : ℕ) (f : Known) → tells_scan f ≡ false → tells_darkening f ≡ false → let y : DomainView = learning (learning x (Pool pool class)) f in FoundNone colours at x word y ⊎ FoundGrey colours at x word y → LookedAtHint colours at x word y
+place_learnt colours x at pool class word f scan dark told = record {
+  learnt = record { view = refl; grows = λ g k. inr (inr k) };
+  colours_stay = refl;
+  armed = refl;
+  owes = refl;
+  scanned = ap (λ (b : Bool). cond b (scanned_in x.seen.share.known + 1) (scanned_in x.seen.share.known)) scan;
+  darkened = ap (λ (b : Bool). cond b (darkened_in x.seen.share.known + 1) (darkened_in x.seen.share.known)) dark;
+  told = told;
+}
+
 -- a look at the head
 pub place_looked : (colours : Colours) (x y z : DomainView) (at pool class word : ℕ) → IsPermutation colours → Slices colours x → y ≡ learning x (Pool pool class) → PlaceTold at y word z → LookedAtHint colours at x word z
 place_looked colours x y z at pool class word p s e told =
@@ -102,25 +116,10 @@ place_looked colours x y z at pool class word p s e told =
     let t : PlaceTold at v word z = subst (λ (u : DomainView). PlaceTold at u word z) e told in
     let same : t.colours ≡ colours = one_meaning x.seen.share.colours colours t.colours s.known t.known in ⊎_elim
     (λ (q : ((word ≡ 0) ⊎ (IsUnmarked t.colours word ⊎ IsScanned t.colours word)) × (z ≡ learning v (Vain at))).
-    subst (LookedAtHint colours at x word) (sym q.1) record {
-      learnt = record { view = refl; grows = λ f k. inr (inr k) };
-      colours_stay = refl;
-      armed = refl;
-      owes = refl;
-      scanned = refl;
-      darkened = refl;
-      told = inl record { none = λ g. not_passed colours word p g (subst (λ (c : Colours). (word ≡ 0) ⊎ (IsUnmarked c word ⊎ IsScanned c word)) same q.0); known = inl refl; vain = refl };
-    })
+    subst (LookedAtHint colours at x word) (sym q.1) (place_learnt colours x at pool class word (Vain at) refl refl
+    (inl record { none = λ g. not_passed colours word p g (subst (λ (c : Colours). (word ≡ 0) ⊎ (IsUnmarked c word ⊎ IsScanned c word)) same q.0); known = inl refl; vain = refl })))
     (λ (q : IsGrey t.colours word × (z ≡ learning v (Shaped at word))).
-    subst (LookedAtHint colours at x word) (sym q.1) record {
-      learnt = record { view = refl; grows = λ f k. inr (inr k) };
-      colours_stay = refl;
-      armed = refl;
-      owes = refl;
-      scanned = refl;
-      darkened = refl;
-      told = inr record { grey = subst (λ (c : Colours). IsGrey c word) same q.0; known = inl refl; vain = refl };
-    })
+    subst (LookedAtHint colours at x word) (sym q.1) (place_learnt colours x at pool class word (Shaped at word) refl refl (inr record { grey = subst (λ (c : Colours). IsGrey c word) same q.0; known = inl refl; vain = refl })))
     t.told
 
 -- the owner of the pool in which the address lies may be looked at

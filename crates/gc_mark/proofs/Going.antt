@@ -163,9 +163,9 @@ missed_since l m n d s h = let g = s.misses d in ⊎_elim
     (λ (e : last_count ≤ missed_at n d). inr e)
     h
 
--- a hint is taken
-pub took_one : (gone : ℕ) (x y : DomainView) (l m n : DeckCounts) → Went 0 gone gone x y l m → Tries 1 m n → Went 0 gone (gone + 1) x y l n
-took_one gone x y l m n w t = record {
+-- so many hints are taken
+tries_on : (many gone : ℕ) (x y : DomainView) (l m n : DeckCounts) → Went 0 gone gone x y l m → Tries many m n → Went 0 gone (gone + many) x y l n
+tries_on many gone x y l m n w t = record {
   learnt = record { view = w.learnt.view; grows = w.learnt.grows };
   colours = w.colours;
   armed = w.armed;
@@ -175,26 +175,18 @@ took_one gone x y l m n w t = record {
   darkens = w.darkens;
   darkened = w.darkened;
   pushes = subst (Rises w.darkens l.pushes) (sym t.pushes) (rises_some w.darkens l.pushes m.pushes w.pushes);
-  taken = rises_on gone 1 l.taken m.taken n.taken w.taken t.taken;
+  taken = rises_on gone many l.taken m.taken n.taken w.taken t.taken;
   deck = stays_on l m n w.deck t.deck;
 }
+
+-- one is
+pub took_one : (gone : ℕ) (x y : DomainView) (l m n : DeckCounts) → Went 0 gone gone x y l m → Tries 1 m n → Went 0 gone (gone + 1) x y l n
+took_one gone x y l m n w t = tries_on 1 gone x y l m n w t
 
 -- or no domain has one
 pub took_none : (gone : ℕ) (x y : DomainView) (l m n : DeckCounts) → Went 0 gone gone x y l m → Tries 0 m n × AllMissed m n → Went 0 gone gone x y l n × AllMissed l n
 took_none gone x y l m n w t = (
-  record {
-    learnt = record { view = w.learnt.view; grows = w.learnt.grows };
-    colours = w.colours;
-    armed = w.armed;
-    owes = w.owes;
-    scanned = w.scanned;
-    vain = w.vain;
-    darkens = w.darkens;
-    darkened = w.darkened;
-    pushes = subst (Rises w.darkens l.pushes) (sym t.0.pushes) (rises_some w.darkens l.pushes m.pushes w.pushes);
-    taken = subst (λ (c : ℕ). Rises c l.taken n.taken) (omega arith) (rises_on gone 0 l.taken m.taken n.taken w.taken t.0.taken);
-    deck = stays_on l m n w.deck t.0.deck;
-  },
+  subst (λ (takes : ℕ). Went 0 gone takes x y l n) (let same : gone + 0 ≡ gone = omega arith in same) (tries_on 0 gone x y l m n w t.0),
   λ d below. missed_since l m n d w.deck (t.1 d (subst (λ (c : ℕ). d < c) (sym w.deck.domains) below)),
 )
 

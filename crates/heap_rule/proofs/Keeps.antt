@@ -42,7 +42,7 @@ use Rattle.heap_rule.specs.Views.{EachView, AllDomains, IsSeated, Knows, one}
 use Rattle.heap_rule.specs.declared.phase.Kind.TheVariants.{Run, Promote, Sweep, Answer}
 use Rattle.heap_rule.specs.declared.phase.Stage.{Stage}
 use Rattle.heap_rule.specs.declared.phase.Stage.TheVariants.{In, Leads, Led, Gone}
-use Rattle.heap_rule.specs.Phases.{Pause, Phases, sum_of, IsEven, AtStage, Staged, IsInPause, Still, Agree, flag, is_over, TookBack, HasSetBack, last_note}
+use Rattle.heap_rule.specs.Phases.{CountsEnded, Pause, Phases, Unwished, sum_of, IsEven, AtStage, Staged, IsInPause, Still, Agree, flag, is_over, TookBack, HasSetBack, last_note}
 use Rattle.heap_rule.specs.Rule.{state_of, AllFound, Stood, Area, Making, Account, Good, Sharing, Whole, Rule}
 use Rattle.heap_rule.specs.Cycles.{Cycling, Cycled, Telling, Leading, HasNoCycle, IsBetween, IsIdle}
 use Rattle.heap_rule.proofs.PauseFacts.{called_still, not_both, agree, nobody_else_still, nobody_paused, staged_as, run_promoting, run_resetting, kind_differs}
@@ -56,7 +56,7 @@ use Rattle.heap_rule.specs.Beside.{AllKnown, IsUnaware, RunsBeside, is_weak}
 use Rattle.model_cycle.specs.Beside.{Snapshot}
 use Rattle.heap_rule.specs.Room.{spent_stock, count, drawn_in_all, copied_words, Room, IsUnused, Opened, Drawable}
 use Rattle.model_core.specs.Domains.{class_count, reserve}
-use Rattle.heap_rule.specs.Layout.{heap_words, at_address}
+use Rattle.heap_rule.specs.Layout.{heap_words, at_address, table_words}
 use Rattle.heap_rule.specs.Pools.{Holder, Stock, Reserved, IsListWhole, IsReturning, KnowsList, Covered, Takes, IsCopying, Latest, DrawsFor, prepared_at, size_of, Tenancy, drawn, owned, Pools, Grid, Drawers, IsLeading, Lists, Resting, Hunts, Hunter, drawn_in, hunting_below, spot_at, IsBefore, IsFree, limit_of}
 use Rattle.heap_rule.specs.Standing.{with_front}
 use Rattle.heap_rule.specs.Ephemerons.{IsEpheAt, Listed}
@@ -782,6 +782,53 @@ module _ (k : Config) (s : Words) (r : Rule k s) (id : ℕ) (hist : List Entry) 
         sweeps = g.sweeps;
       })
 
+  -- What a step owes of the whole that changes no block and turns no phase
+  pub record Stays (log' : List Entry) (t' : Tenancy) (c' : Cycling) (words' : List ℕ) : Type 0 where
+    pub wide : length words' ≡ table_words k
+    pub legal : Legal (sizes_in k) log'
+    pub full : Fullness k log' r.account.live t'.holder t'.fresh t'.garbage r.account.homes c'.kind
+    pub found : AllFound k c'.paint r.account.live (state_of k log').graph words'
+    pub phases : Phases k r.account.pause words'
+    pub unwished : Unwished r.account.pause words'
+    pub endings : CountsEnded k (state_of k log') words'
+    pub pools : Pools k t' words'
+    pub reserved : Reserved k r.account.pause t' words'
+    pub covered : Covered k r.account.pause t' words'
+    pub grid : Grid k t' r.account.live words'
+    pub drawers : Drawers r.account.pause t'
+    pub room : Room k r.account.live r.account.pause t'.stock words'
+    pub unused : IsUnused r.account.pause t'.stock
+    pub opened : Opened k r.account.live words'
+    pub drawable : Drawable k r.account.pause words'
+    pub cycle : Cycled k (state_of k log') r.account.live r.account.pause t' c' words'
+
+  pub whole_stays : (log' : List Entry) (t' : Tenancy) (c' : Cycling) (words' : List ℕ) → Stays log' t' c' words' → Whole k (record r.account { log = log'; tenancy = t'; cycling = c' }) words'
+  whole_stays log' t' c' words' o = record {
+    wide = o.wide;
+    legal = o.legal;
+    full = o.full;
+    found = o.found;
+    placed = r.whole.placed;
+    spread = r.whole.spread;
+    settled = r.whole.settled;
+    copies = r.whole.copies;
+    cleared = r.whole.cleared;
+    emptied = r.whole.emptied;
+    phases = o.phases;
+    unwished = o.unwished;
+    endings = o.endings;
+    pools = o.pools;
+    reserved = o.reserved;
+    covered = o.covered;
+    grid = o.grid;
+    drawers = o.drawers;
+    room = o.room;
+    unused = o.unused;
+    opened = o.opened;
+    drawable = o.drawable;
+    cycle = o.cycle;
+  }
+
   -- the domain with what of another view a step may change at which no entry stands
   abbrev pub changed_as : DomainView → DomainView
   changed_as y = record {
@@ -820,17 +867,11 @@ module _ (k : Config) (s : Words) (r : Rule k s) (id : ℕ) (hist : List Entry) 
       let remembered = ap (λ (z : DomainView). z.seen.remembered) o.same in
       let seen = λ (h : HasSetBack y). let b : HasSetBack x = (sym stage ∙ h.0, sym (ap last_note notes) ∙ h.1) in b in
       remakes y (record r.account { cycling = c' }) words'
-      record {
+      (whole_stays r.account.log r.account.tenancy c' words' record {
         wide = o.wide ∙ r.whole.wide;
         legal = r.whole.legal;
         full = subst (Fullness k r.account.log r.account.live r.account.tenancy.holder r.account.tenancy.fresh r.account.tenancy.garbage r.account.homes) (sym o.kind) r.whole.full;
         found = o.found;
-        placed = r.whole.placed;
-        spread = r.whole.spread;
-        settled = r.whole.settled;
-        copies = r.whole.copies;
-        cleared = r.whole.cleared;
-        emptied = r.whole.emptied;
         phases = o.controls.phases;
         unwished = λ j odd led runs. o.controls.want ∙ r.whole.unwished j odd led runs;
         endings = o.controls.ended ∙ r.whole.endings;
@@ -844,7 +885,7 @@ module _ (k : Config) (s : Words) (r : Rule k s) (id : ℕ) (hist : List Entry) 
         opened = opened_words k r.account.live s.words words' o.controls.listed_young r.whole.opened;
         drawable = o.controls.drawable;
         cycle = o.cycle;
-      }
+      })
       (knows_front y number o.front)
       record {
         stood = o.stood;
@@ -918,17 +959,11 @@ module _ (k : Config) (s : Words) (r : Rule k s) (id : ℕ) (hist : List Entry) 
       let y : DomainView = logged fs front share in
       let g = my_good in
       remakes y (record r.account { log = log'; cycling = c' }) s.words
-      record {
+      (whole_stays log' r.account.tenancy c' s.words record {
         wide = r.whole.wide;
         legal = o.legal;
         full = o.full;
         found = o.found;
-        placed = r.whole.placed;
-        spread = r.whole.spread;
-        settled = r.whole.settled;
-        copies = r.whole.copies;
-        cleared = r.whole.cleared;
-        emptied = r.whole.emptied;
         phases = r.whole.phases;
         unwished = r.whole.unwished;
         endings = r.whole.endings ∙ sym (sum_same (is_over now) (is_over (state_of k log')) k.domains (λ d _. ap flag (o.ended d)));
@@ -942,7 +977,7 @@ module _ (k : Config) (s : Words) (r : Rule k s) (id : ℕ) (hist : List Entry) 
         opened = r.whole.opened;
         drawable = r.whole.drawable;
         cycle = o.cycle;
-      }
+      })
       o.seats
       record {
         stood = o.stood;
@@ -1016,17 +1051,11 @@ module _ (k : Config) (s : Words) (r : Rule k s) (id : ℕ) (hist : List Entry) 
       → Sweeps t'.holder t'.garbage r.account.cycling.kind r.account.cycling.shares.arrived z.own.number z.own.ephemerons.items (record z.own.swept { top = high }) z.seen.share.reaping =
       (λ z. sweeps_on k r.account.live r.account.tenancy r.account.cycling s.words r.whole.cycle.leaves r.account.live t' words' o.garbage r.whole.pools (λ q d c e. (o.pools.owned_by q d c e).2) r.account.cycling.kind r.account.cycling.shares.arrived z.own.number z.own.ephemerons.items z.own.swept z.seen.share.reaping) in
       remakes (hunting_below x top looked hunt free) (record r.account { tenancy = t' }) words'
-      record {
+      (whole_stays r.account.log t' r.account.cycling words' record {
         wide = o.wide ∙ r.whole.wide;
         legal = r.whole.legal;
         full = o.full;
         found = o.found;
-        placed = r.whole.placed;
-        spread = r.whole.spread;
-        settled = r.whole.settled;
-        copies = r.whole.copies;
-        cleared = r.whole.cleared;
-        emptied = r.whole.emptied;
         phases = o.phases;
         unwished = λ j odd led runs. o.want ∙ r.whole.unwished j odd led runs;
         endings = o.endings ∙ r.whole.endings;
@@ -1040,7 +1069,7 @@ module _ (k : Config) (s : Words) (r : Rule k s) (id : ℕ) (hist : List Entry) 
         opened = opened_words k r.account.live s.words words' (λ _ _ _ _. o.listed_same) r.whole.opened;
         drawable = takes_drawable k r.account.pause words' x o.takes my_good.staged;
         cycle = cycle_here in_kind.0 in_kind.1 in_kind.2 now r.account.live t' r.account.cycling.past words' refl o.garbage o.cycle (λ is u. u);
-      }
+      })
       (knows_front (hunting_below x top looked hunt free) refl (inl refl))
       record {
         stood = record { wide = my_good.stood.wide; each = my_good.stood.each; serial = my_good.stood.serial; enrolled = my_good.stood.enrolled };

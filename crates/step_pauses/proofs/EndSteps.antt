@@ -30,7 +30,7 @@ use Rattle.heap_rule.specs.declared.phase.Kind.TheVariants.{Run}
 use Rattle.heap_rule.specs.Views.{one, Tells}
 use Rattle.heap_rule.proofs.FinaliserLemmas.{enrolled_none, paired_none, work_next}
 use Rattle.heap_rule.proofs.Values.{holds}
-use Rattle.heap_rule.proofs.Keeps.{mine, my_good, remakes, knows_entry, after_entry, legal_entry, cycle_here, sharing_here, sharings_here, phases_words, stood_other, whole_still, hunter_as, running_took_back, resting_runs, resting_other, room_words, opened_words, takes_drawable, owes_as, more_same, run_leads, run_rooted, garbage_here}
+use Rattle.heap_rule.proofs.Keeps.{whole_stays, mine, my_good, remakes, knows_entry, after_entry, legal_entry, cycle_here, sharing_here, sharings_here, phases_words, stood_other, whole_still, hunter_as, running_took_back, resting_runs, resting_other, room_words, opened_words, takes_drawable, owes_as, more_same, run_leads, run_rooted, garbage_here}
 use Rattle.heap_rule.proofs.PauseFacts.{called_still, staged_as}
 use Rattle.heap_rule.proofs.Sharings.{SameCycle, KeepsUnderway, with_past}
 use Rattle.heap_rule.proofs.FullnessLemmas.{full_stays}
@@ -109,17 +109,11 @@ ends k slots id hist x acts s r _ at _ =
     let endures : Endures k r.account.live r.account.live holder holder marked marked s.words ws = endures_words k r.account.live holder marked s.words ws (heap_untouched k s.words ws untouched) in
     let own_runs = runs_on k r.account.live r.account.live holder holder r.account.cycling.armed r.account.cycling.past (record r.account.cycling.past { old = past'.old }) marked marked s.words ws d x.seen.stage x.seen.share (λ _. endures) advance.advances.same_old (λ q. refl) g.sharing.running in
     let rule : Rule k record { words = ws; homes = s.homes; views = set s.views id (one k hist y) } = remakes k s r id hist x at y all' ws
-    record {
+    (whole_stays k s r id hist x at log' r.account.tenancy (with_past r.account.cycling past') ws record {
       wide = untouched.0 ∙ r.whole.wide;
       legal = legal_entry k s r id hist x at e allowed;
       full = full_stays k r.account.log r.account.live r.account.tenancy.holder r.account.tenancy.fresh r.account.tenancy.garbage r.account.homes r.account.cycling.kind e refl r.whole.full;
       found = let paint = r.account.cycling.paint in subst (λ (t : model.State). AllFound k paint r.account.live t.graph ws) (sym after) (found_untouched k paint r.account.live now.graph s.words ws untouched r.whole.found);
-      placed = r.whole.placed;
-      spread = r.whole.spread;
-      settled = r.whole.settled;
-      copies = r.whole.copies;
-      cleared = r.whole.cleared;
-      emptied = r.whole.emptied;
       phases = phases_words k r.account.pause s.words ws (get_or-set_other s.words 8 1 (w + 1) 0 (λ q. omega arith)) (get_or-set_other s.words 8 2 (w + 1) 0 (λ q. omega arith)) r.whole.phases;
       unwished = λ j odd led runs. same_want ∙ r.whole.unwished j odd led runs;
       endings = counts;
@@ -134,7 +128,7 @@ ends k slots id hist x acts s r _ at _ =
       drawers = r.whole.drawers;
       cycle = cycle_here k s r id hist x at Run tt acts.runs (state_of k log') r.account.live r.account.tenancy past' ws (ap (λ (t : model.State). t.mode) after) (garbage_here k s r id hist x at r.account.live ws r.whole.cycle.leaves.dead (λ a _. heap_untouched k s.words ws untouched a)) same
           (subst (λ (t : model.State). KeepsUnderway k now t r.account.live r.account.live r.account.cycling past') (sym after) advance.advances.underway);
-    }
+    })
     (knows_entry k s r id hist x at y e alone (λ _. refl) refl refl)
     record {
       stood = subst (λ (t : model.State). Stood r.account.live t y) (sym after) stands;

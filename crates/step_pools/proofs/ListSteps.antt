@@ -29,7 +29,7 @@ use Rattle.heap_rule.specs.Rule.{state_of, Good, Rule}
 use Rattle.heap_rule.specs.Standing.{noted}
 use Rattle.heap_rule.specs.Views.{one}
 use Rattle.heap_rule.proofs.Holders.{SameHeap, found_heap, making_heap, grid_heap, sum_small}
-use Rattle.heap_rule.proofs.Keeps.{Words, my_good, remakes, knows_front, phases_words, room_words, opened_words, whole_words, hunter_as, owes_as, takes_even, unmoved}
+use Rattle.heap_rule.proofs.Keeps.{whole_stays, Words, my_good, remakes, knows_front, phases_words, room_words, opened_words, whole_words, hunter_as, owes_as, takes_even, unmoved}
 use Rattle.heap_rule.proofs.PauseFacts.{agree, not_both}
 use Rattle.heap_rule.proofs.Controls.{last_note_end, sharing_words}
 use Rattle.heap_rule.proofs.Lists.{got_below, got_end}
@@ -158,17 +158,11 @@ module _ (k : Config) (s : Words) (r : Rule k s) (id : ℕ) (hist : List Entry) 
       let own_stays : Takes x.seen.stage → ⊥ = idle x good.staged in
       let h = rests_hunter k t s.words words' x heap (good.resting.hunt own_stays) (good.resting.free (λ e. own_stays (inl e))) good.hunter in
       remakes k s r id hist x at y r.account words'
-      record {
+      (whole_stays k s r id hist x at r.account.log t r.account.cycling words' record {
         wide = o.wide ∙ r.whole.wide;
         legal = r.whole.legal;
         full = r.whole.full;
         found = found_heap k r.account.cycling.paint r.account.live (state_of k r.account.log).graph s.words words' heap r.whole.placed r.whole.found;
-        placed = r.whole.placed;
-        spread = r.whole.spread;
-        settled = r.whole.settled;
-        copies = r.whole.copies;
-        cleared = r.whole.cleared;
-        emptied = r.whole.emptied;
         phases = phases_words k pause s.words words' (o.control 1 (inl (omega arith))) (o.control 2 (inl (omega arith))) r.whole.phases;
         unwished = λ j odd led runs. o.control 0 (inl (omega arith)) ∙ r.whole.unwished j odd led runs;
         endings = o.control 8 (inr (omega arith, omega arith)) ∙ r.whole.endings;
@@ -182,7 +176,7 @@ module _ (k : Config) (s : Words) (r : Rule k s) (id : ℕ) (hist : List Entry) 
         opened = opened_words k r.account.live s.words words' o.listed_young r.whole.opened;
         drawable = o.drawable;
         cycle = cycle_words k (state_of k r.account.log) r.account.live pause t r.account.cycling s.words words' same o.every r.whole.cycle;
-      }
+      })
       (knows_front k s r id hist x at y refl (inl refl))
       record {
         stood = record { wide = good.stood.wide; each = good.stood.each; serial = good.stood.serial; enrolled = good.stood.enrolled };

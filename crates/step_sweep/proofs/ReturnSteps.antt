@@ -17,7 +17,7 @@ use Rattle.heap_rule.specs.Raw.{CanLeave, Closes, Leaves, MayStore}
 use Rattle.heap_rule.specs.Rule.{Account, Good, Rule, Sharing, state_of}
 use Rattle.heap_rule.specs.Views.{one}
 use Rattle.heap_rule.proofs.Holders.{NotOf, found_agrees, free_later, hunter_agree, making_agrees, nobody_not, owned_not, same_over, stock_self}
-use Rattle.heap_rule.proofs.Keeps.{Words, knows_front, my_good, opened_words, owes_as, phases_words, remakes, room_words}
+use Rattle.heap_rule.proofs.Keeps.{whole_stays, Words, knows_front, my_good, opened_words, owes_as, phases_words, remakes, room_words}
 use Rattle.heap_rule.proofs.PauseFacts.{not_both}
 use Rattle.heap_rule.proofs.Sharings.{leading_words}
 use Rattle.step_marks.specs.Marking.Looks.{with_share}
@@ -136,17 +136,11 @@ module _ (k : Config) (s : Words) (r : Rule k s) (id : ℕ) (hist : List Entry) 
       let own_making = making_agrees k s.words ws x same g.making in
       let own_rest = lists_void x g.staged g.resting in
       remakes k s r id hist x at y all' ws
-      record {
+      (whole_stays k s r id hist x at r.account.log after c ws record {
         wide = length-set s.words (11 + k.pools + pool) 0 ∙ r.whole.wide;
         legal = r.whole.legal;
         full = full' k s r id hist x at word pool class may;
         found = found_agrees k c.paint r.account.live (state_of k r.account.log).graph s.words ws same r.whole.placed r.whole.found;
-        placed = r.whole.placed;
-        spread = r.whole.spread;
-        settled = r.whole.settled;
-        copies = r.whole.copies;
-        cleared = r.whole.cleared;
-        emptied = r.whole.emptied;
         phases = phases_words k r.account.pause s.words ws (other 1 (λ e. omega arith)) (other 2 (λ e. omega arith)) r.whole.phases;
         unwished = λ j odd led runs. want ∙ r.whole.unwished j odd led runs;
         endings = other 8 (λ e. omega arith) ∙ r.whole.endings;
@@ -160,7 +154,7 @@ module _ (k : Config) (s : Words) (r : Rule k s) (id : ℕ) (hist : List Entry) 
         opened = opened_words k r.account.live s.words ws (λ _ _ _ _. counts.0) r.whole.opened;
         drawable = record { to_run = λ j odd _ _. absurd (even_here j odd); to_copy = λ j odd _ _. absurd (even_here j odd) };
         cycle = cycle' k s r id hist x at word pool class may;
-      }
+      })
       (knows_front k s r id hist x at y refl (inl refl))
       record {
         stood = record { wide = g.stood.wide; each = g.stood.each; serial = g.stood.serial; enrolled = g.stood.enrolled };

@@ -43,7 +43,7 @@ use Rattle.heap_rule.proofs.Growing.{grows_none}
 use Rattle.heap_rule.proofs.Beside.{extent_of, found_beside, live_word_far, making_beside}
 use Rattle.heap_rule.proofs.FinaliserLemmas.{KeepsWork}
 use Rattle.heap_rule.proofs.Sharings.{leading_loads}
-use Rattle.heap_rule.proofs.Keeps.{Words, control_set, controls_kept, hunter_as, more_same, my_good, opened_words, owes_as, remakes, resting_as, resting_lists, room_words, stood_other, sum_same}
+use Rattle.heap_rule.proofs.Keeps.{whole_stays, Words, control_set, controls_kept, hunter_as, more_same, my_good, opened_words, owes_as, remakes, resting_as, resting_lists, room_words, stood_other, sum_same}
 use Rattle.heap_rule.proofs.Lists.{got_set}
 use Rattle.heap_rule.proofs.Lots.{Beside, grid_beside, head_full, hunter_beside, live_beside}
 use Rattle.heap_rule.proofs.PauseFacts.{nobody_else_still, not_both}
@@ -434,17 +434,11 @@ module _ (k : Config) (s : Words) (r : Rule k s) (id : ℕ) (hist : List Entry) 
           let own_hunter = hunter_beside k T s.words (block + 2 + i) 0 r.whole.pools x (beside d) g.hunter in
           let own_sharing = sharing' in
           remakes k s r id hist x at y all' words'
-          record {
+          (whole_stays k s r id hist x at log' T c' words' record {
             wide = length-set s.words (before_heap k + (block + 2 + i)) 0 ∙ r.whole.wide;
             legal = o.legal;
             full = o.full;
             found = found';
-            placed = r.whole.placed;
-            spread = r.whole.spread;
-            settled = r.whole.settled;
-            copies = r.whole.copies;
-            cleared = r.whole.cleared;
-            emptied = r.whole.emptied;
             phases = controls.phases;
             unwished = λ j odd led runs. controls.want ∙ r.whole.unwished j odd led runs;
             endings = endings';
@@ -458,7 +452,7 @@ module _ (k : Config) (s : Words) (r : Rule k s) (id : ℕ) (hist : List Entry) 
             opened = opened_words k live s.words words' controls.listed_young r.whole.opened;
             drawable = controls.drawable;
             cycle = cycle';
-          }
+          })
           o.knows
           record {
             stood = record { wide = own_stood.wide; each = own_stood.each; serial = own_stood.serial; enrolled = own_stood.enrolled };

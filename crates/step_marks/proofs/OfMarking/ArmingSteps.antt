@@ -26,7 +26,7 @@ use Rattle.heap_rule.specs.Rule.{Account, Good, Rule, Sharing, state_of}
 use Rattle.heap_rule.specs.Views.{one}
 use Rattle.heap_rule.proofs.BesideLemmas.{runs_unaware}
 use Rattle.heap_rule.proofs.Holders.{Agrees, agrees_set, found_heap, grid_heap, hunter_agree, making_heap, same_self}
-use Rattle.heap_rule.proofs.Keeps.{Words, covered_words, hunter_as, knows_front, lists_same, my_good, opened_words, owes_as, phases_words, pools_words, remakes, resting_as, resting_lists, room_words, unmoved}
+use Rattle.heap_rule.proofs.Keeps.{whole_stays, Words, covered_words, hunter_as, knows_front, lists_same, my_good, opened_words, owes_as, phases_words, pools_words, remakes, resting_as, resting_lists, room_words, unmoved}
 use Rattle.heap_rule.proofs.PauseFacts.{not_both}
 use Rattle.heap_rule.proofs.Sharings.{knows_words}
 use Rattle.step_marks.specs.Marking.Arming.{ArmMay, ArmedTold, knowing_armed}
@@ -259,17 +259,11 @@ module _ (k : Config) (s : Words) (r : Rule k s) (id : ℕ) (hist : List Entry) 
 
     arm_rule : Rule k record { words = ws; homes = s.homes; views = set s.views id (one k hist y) }
     arm_rule = remakes k s r id hist x at y all' ws
-        record {
+        (whole_stays k s r id hist x at r.account.log r.account.tenancy c' ws record {
           wide = length-set s.words 4 (flag armed) ∙ r.whole.wide;
           legal = r.whole.legal;
           full = r.whole.full;
           found = found_heap k c.paint r.account.live now.graph s.words ws (λ a _. heap a) r.whole.placed r.whole.found;
-          placed = r.whole.placed;
-          spread = r.whole.spread;
-          settled = r.whole.settled;
-          copies = r.whole.copies;
-          cleared = r.whole.cleared;
-          emptied = r.whole.emptied;
           phases = phases_words k r.account.pause s.words ws (other 1 (λ e. omega arith)) (other 2 (λ e. omega arith)) r.whole.phases;
           unwished = λ j odd led runs. other 0 (λ e. omega arith) ∙ r.whole.unwished j odd led runs;
           endings = other 8 (λ e. omega arith) ∙ r.whole.endings;
@@ -286,7 +280,7 @@ module _ (k : Config) (s : Words) (r : Rule k s) (id : ℕ) (hist : List Entry) 
             to_copy = λ j odd led copies. low_kept (r.whole.drawable.to_copy j odd led copies);
           };
           cycle = cycle';
-        }
+        })
         (knows_front k s r id hist x at y refl (inl refl))
         (let m = making_heap k s.words ws x (λ a _. heap a) good.making in record {
           stood = record { wide = good.stood.wide; each = good.stood.each; serial = good.stood.serial; enrolled = good.stood.enrolled };
