@@ -165,10 +165,7 @@ found_by z now d e old mid new cs p o sizes domain front are makes holds is = re
   holds = subst (λ (w : Sizes × ℕ × List Entry). HoldsPlaces w.0 p w.1 w.2) (λ i. (sizes i, domain i, sym front i)) (holds p is);
 }
 
--- a command, or some, at the numbers with which a call began
-pub performed_at : (z now : Sizes) (d e : ℕ) (old new : List Entry) (c : Command) (r : Reply) → now ≡ z → e ≡ d → PerformedBy now e old new c r → PerformedBy z d old new c r
-performed_at z now d e old new c r sizes domain x = subst (λ (w : Sizes × ℕ). PerformedBy w.0 w.1 old new c r) (λ i. (sizes i, domain i)) x
-
+-- some commands, at the numbers with which a call began
 pub makes_at : (z now : Sizes) (d e : ℕ) (old : List Entry) (cs are : List Command) (new : List Entry) → now ≡ z → e ≡ d → cs ≡ are → MakesEach now e old cs new → MakesEach z d old are new
 makes_at z now d e old cs are new sizes domain same x = subst (λ (w : Sizes × ℕ × List Command). MakesEach w.0 w.1 old w.2 new) (λ i. (sizes i, domain i, same i)) x
 

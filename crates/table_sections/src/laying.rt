@@ -9,6 +9,7 @@ ghost use Rattle.model_core.specs.declared.reply.Reply.TheVariants as given;
 ghost use Rattle.weak_laws.specs.Maps.Calls.{PerformedBy};
 ghost use Rattle.weak_maps.specs.Beside.{held_by};
 ghost use Rattle.table_sections.specs.Places.{Finds, HoldsPlaces, IsQuiet, LaysOut, MakesEach};
+ghost use Rattle.weak_maps.specs.Frames.{Stays};
 
 use model_core::command::Command;
 use model_core::label::Label;
@@ -56,9 +57,7 @@ fn make_slots<M: Machine, R: Wait>(m: &mut M, rt: &R, dst: u8) -> Option<Label>
     requires few { dst < 16 }
     requires label { 1 ≤ M.labels_left m.old }
     requires room { 1 ≤ M.ephes_room m.old }
-    ensures sizes { M.sizes m.new ≡ M.sizes m.old }
-    ensures domain { M.domain m.new ≡ M.domain m.old }
-    ensures heap { M.heap m.new ≡ M.heap m.old }
+    ensures stays { Stays M.sizes M.domain M.heap m.old m.new }
     ensures labels { M.labels_left m.old ≤ M.labels_left m.new + 1 }
     ensures room { M.ephes_room m.old ≤ M.ephes_room m.new + 1 }
     ensures made { ForSome result (λ l. PerformedBy (M.sizes m.old) (M.domain m.old) (M.front m.old) (M.front m.new)
@@ -70,9 +69,7 @@ fn make_slots<M: Machine, R: Wait>(m: &mut M, rt: &R, dst: u8) -> Option<Label>
 // Makes the root of a map in its register. None where the allocation is refused.
 fn make_map<M: Machine, R: Wait>(m: &mut M, rt: &R) -> Option<Label>
     requires label { 1 ≤ M.labels_left m.old }
-    ensures sizes { M.sizes m.new ≡ M.sizes m.old }
-    ensures domain { M.domain m.new ≡ M.domain m.old }
-    ensures heap { M.heap m.new ≡ M.heap m.old }
+    ensures stays { Stays M.sizes M.domain M.heap m.old m.new }
     ensures labels { M.labels_left m.old ≤ M.labels_left m.new + 1 }
     ensures room { M.ephes_room m.old ≤ M.ephes_room m.new }
     ensures made { ForSome result (λ l. PerformedBy (M.sizes m.old) (M.domain m.old) (M.front m.old) (M.front m.new)
@@ -89,9 +86,7 @@ fn make_map<M: Machine, R: Wait>(m: &mut M, rt: &R) -> Option<Label>
 // Makes commands that take no label and no room, one after the other.
 fn make_each<M: Machine, R: Wait>(m: &mut M, rt: &R, commands: &[Command])
     requires quiet { AllByRecursion IsQuiet commands.now }
-    ensures sizes { M.sizes m.new ≡ M.sizes m.old }
-    ensures domain { M.domain m.new ≡ M.domain m.old }
-    ensures heap { M.heap m.new ≡ M.heap m.old }
+    ensures stays { Stays M.sizes M.domain M.heap m.old m.new }
     ensures labels { M.labels_left m.old ≤ M.labels_left m.new }
     ensures room { M.ephes_room m.old ≤ M.ephes_room m.new }
     ensures made { MakesEach (M.sizes m.old) (M.domain m.old) (M.front m.old) commands.now (M.front m.new) }
@@ -126,9 +121,7 @@ const fn store(index: u16, item: u8) -> Command
 // The block that a register holds.
 fn held<M: Machine>(m: &mut M, register: u8) -> Option<Label>
     requires few { register < 16 }
-    ensures sizes { M.sizes m.new ≡ M.sizes m.old }
-    ensures domain { M.domain m.new ≡ M.domain m.old }
-    ensures heap { M.heap m.new ≡ M.heap m.old }
+    ensures stays { Stays M.sizes M.domain M.heap m.old m.new }
     ensures front { M.front m.new ≡ M.front m.old }
     ensures labels { M.labels_left m.new ≡ M.labels_left m.old }
     ensures room { M.ephes_room m.new ≡ M.ephes_room m.old }
@@ -139,9 +132,7 @@ fn held<M: Machine>(m: &mut M, register: u8) -> Option<Label>
 
 // What the registers hold, if each holds a block.
 fn places_of<M: Machine>(m: &mut M) -> Option<Places>
-    ensures sizes { M.sizes m.new ≡ M.sizes m.old }
-    ensures domain { M.domain m.new ≡ M.domain m.old }
-    ensures heap { M.heap m.new ≡ M.heap m.old }
+    ensures stays { Stays M.sizes M.domain M.heap m.old m.new }
     ensures front { M.front m.new ≡ M.front m.old }
     ensures labels { M.labels_left m.new ≡ M.labels_left m.old }
     ensures room { M.ephes_room m.new ≡ M.ephes_room m.old }
@@ -159,9 +150,7 @@ fn places_of<M: Machine>(m: &mut M) -> Option<Places>
 pub(crate) fn lay_out<M: Machine, R: Wait>(m: &mut M, rt: &R) -> Option<Places>
     requires labels { 4 ≤ M.labels_left m.old }
     requires room { 3 ≤ M.ephes_room m.old }
-    ensures sizes { M.sizes m.new ≡ M.sizes m.old }
-    ensures domain { M.domain m.new ≡ M.domain m.old }
-    ensures heap { M.heap m.new ≡ M.heap m.old }
+    ensures stays { Stays M.sizes M.domain M.heap m.old m.new }
     ensures labels { M.labels_left m.old ≤ M.labels_left m.new + 4 }
     ensures room { M.ephes_room m.old ≤ M.ephes_room m.new + 3 }
     ensures laid { ForSome result (λ p. LaysOut (M.sizes m.old) (M.domain m.old) (M.front m.old) (M.front m.new) p) }
@@ -182,9 +171,7 @@ pub(crate) fn lay_out<M: Machine, R: Wait>(m: &mut M, rt: &R) -> Option<Places>
 
 /// Loads the ephemerons and the map. Answers whether they are these.
 pub(crate) fn find<M: Machine, R: Wait>(m: &mut M, rt: &R, places: Places) -> bool
-    ensures sizes { M.sizes m.new ≡ M.sizes m.old }
-    ensures domain { M.domain m.new ≡ M.domain m.old }
-    ensures heap { M.heap m.new ≡ M.heap m.old }
+    ensures stays { Stays M.sizes M.domain M.heap m.old m.new }
     ensures labels { M.labels_left m.old ≤ M.labels_left m.new }
     ensures room { M.ephes_room m.old ≤ M.ephes_room m.new }
     ensures found { result ≡ true → Finds (M.sizes m.old) (M.domain m.old) (M.front m.old) (M.front m.new) places }

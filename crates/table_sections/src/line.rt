@@ -4,6 +4,7 @@ ghost use Rattle.table_text.specs.declared.line.TableLine.TheVariants as line_of
 ghost use Rattle.table_text.specs.Forms.{is_writable};
 ghost use Rattle.table_sections.specs.Lines.{HasRoomFor, IsKeyRegister, IsSharedLine, TakesAtMost};
 ghost use Rattle.table_sections.specs.Sections.{LineDone};
+ghost use Rattle.weak_maps.specs.Frames.{Stays};
 
 use crate::slots::{slot_ephe, slot_key};
 use model_core::command::Command;
@@ -24,9 +25,7 @@ const BETWEEN: u8 = 0;
 fn make_key<M: Machine, R: Wait>(m: &mut M, rt: &R, reg: u8) -> LineReply
     requires register { IsKeyRegister reg }
     requires room { HasRoomFor 1 (M.labels_left m.old) (M.ephes_room m.old) }
-    ensures sizes { M.sizes m.new ≡ M.sizes m.old }
-    ensures domain { M.domain m.new ≡ M.domain m.old }
-    ensures heap { M.heap m.new ≡ M.heap m.old }
+    ensures stays { Stays M.sizes M.domain M.heap m.old m.new }
     ensures takes { TakesAtMost 1 (M.labels_left m.old) (M.labels_left m.new) (M.ephes_room m.old) (M.ephes_room m.new) }
     ensures done { LineDone (M.sizes m.old) (M.domain m.old) (M.front m.old) (line_of.Key reg) result (M.front m.new) }
 {
@@ -48,9 +47,7 @@ fn make_key<M: Machine, R: Wait>(m: &mut M, rt: &R, reg: u8) -> LineReply
 // A register that holds nothing.
 fn forget<M: Machine, R: Wait>(m: &mut M, rt: &R, reg: u8) -> LineReply
     requires register { IsKeyRegister reg }
-    ensures sizes { M.sizes m.new ≡ M.sizes m.old }
-    ensures domain { M.domain m.new ≡ M.domain m.old }
-    ensures heap { M.heap m.new ≡ M.heap m.old }
+    ensures stays { Stays M.sizes M.domain M.heap m.old m.new }
     ensures takes { TakesAtMost 1 (M.labels_left m.old) (M.labels_left m.new) (M.ephes_room m.old) (M.ephes_room m.new) }
     ensures done { LineDone (M.sizes m.old) (M.domain m.old) (M.front m.old) (line_of.Forget reg) result (M.front m.new) }
 {
@@ -62,13 +59,11 @@ fn forget<M: Machine, R: Wait>(m: &mut M, rt: &R, reg: u8) -> LineReply
 fn put<M: Machine, R: Wait>(m: &mut M, rt: &R, reg: u8, value: i64) -> LineReply
     requires fits { is_writable (line_of.Put reg value) ≡ true }
     requires room { HasRoomFor 1 (M.labels_left m.old) (M.ephes_room m.old) }
-    ensures sizes { M.sizes m.new ≡ M.sizes m.old }
-    ensures domain { M.domain m.new ≡ M.domain m.old }
-    ensures heap { M.heap m.new ≡ M.heap m.old }
+    ensures stays { Stays M.sizes M.domain M.heap m.old m.new }
     ensures takes { TakesAtMost 1 (M.labels_left m.old) (M.labels_left m.new) (M.ephes_room m.old) (M.ephes_room m.new) }
     ensures done { LineDone (M.sizes m.old) (M.domain m.old) (M.front m.old) (line_of.Put reg value) result (M.front m.new) }
 {
-    m.stands();
+    m.shows_legal();
     let _value = perform(
         m,
         rt,
@@ -77,39 +72,35 @@ fn put<M: Machine, R: Wait>(m: &mut M, rt: &R, reg: u8, value: i64) -> LineReply
             value,
         },
     );
-    m.stands();
+    m.shows_legal();
     let reply = map_put(m, rt, MAP, reg, BETWEEN);
-    m.stands();
+    m.shows_legal();
     said(&reply)
 }
 
 // What the key in a register is bound to.
 fn get<M: Machine, R: Wait>(m: &mut M, rt: &R, reg: u8) -> LineReply
     requires register { IsKeyRegister reg }
-    ensures sizes { M.sizes m.new ≡ M.sizes m.old }
-    ensures domain { M.domain m.new ≡ M.domain m.old }
-    ensures heap { M.heap m.new ≡ M.heap m.old }
+    ensures stays { Stays M.sizes M.domain M.heap m.old m.new }
     ensures takes { TakesAtMost 1 (M.labels_left m.old) (M.labels_left m.new) (M.ephes_room m.old) (M.ephes_room m.new) }
     ensures done { LineDone (M.sizes m.old) (M.domain m.old) (M.front m.old) (line_of.Get reg) result (M.front m.new) }
 {
-    m.stands();
+    m.shows_legal();
     let reply = map_get(m, rt, BETWEEN, MAP, reg);
-    m.stands();
+    m.shows_legal();
     said(&reply)
 }
 
 // The binding of the key in a register is taken out.
 fn delete<M: Machine, R: Wait>(m: &mut M, rt: &R, reg: u8) -> LineReply
     requires register { IsKeyRegister reg }
-    ensures sizes { M.sizes m.new ≡ M.sizes m.old }
-    ensures domain { M.domain m.new ≡ M.domain m.old }
-    ensures heap { M.heap m.new ≡ M.heap m.old }
+    ensures stays { Stays M.sizes M.domain M.heap m.old m.new }
     ensures takes { TakesAtMost 1 (M.labels_left m.old) (M.labels_left m.new) (M.ephes_room m.old) (M.ephes_room m.new) }
     ensures done { LineDone (M.sizes m.old) (M.domain m.old) (M.front m.old) (line_of.Del reg) result (M.front m.new) }
 {
-    m.stands();
+    m.shows_legal();
     let reply = map_take(m, rt, MAP, reg);
-    m.stands();
+    m.shows_legal();
     said(&reply)
 }
 
@@ -117,9 +108,7 @@ fn delete<M: Machine, R: Wait>(m: &mut M, rt: &R, reg: u8) -> LineReply
 fn set_slot<M: Machine, R: Wait>(m: &mut M, rt: &R, slot: u8, reg: u8) -> LineReply
     requires slot { slot < 16 }
     requires register { IsKeyRegister reg }
-    ensures sizes { M.sizes m.new ≡ M.sizes m.old }
-    ensures domain { M.domain m.new ≡ M.domain m.old }
-    ensures heap { M.heap m.new ≡ M.heap m.old }
+    ensures stays { Stays M.sizes M.domain M.heap m.old m.new }
     ensures takes { TakesAtMost 1 (M.labels_left m.old) (M.labels_left m.new) (M.ephes_room m.old) (M.ephes_room m.new) }
     ensures done { LineDone (M.sizes m.old) (M.domain m.old) (M.front m.old) (line_of.SetWeak slot reg) result (M.front m.new) }
 {
@@ -139,13 +128,11 @@ fn set_slot<M: Machine, R: Wait>(m: &mut M, rt: &R, slot: u8, reg: u8) -> LineRe
 fn get_slot<M: Machine, R: Wait>(m: &mut M, rt: &R, dst: u8, slot: u8) -> LineReply
     requires register { IsKeyRegister dst }
     requires slot { slot < 16 }
-    ensures sizes { M.sizes m.new ≡ M.sizes m.old }
-    ensures domain { M.domain m.new ≡ M.domain m.old }
-    ensures heap { M.heap m.new ≡ M.heap m.old }
+    ensures stays { Stays M.sizes M.domain M.heap m.old m.new }
     ensures takes { TakesAtMost 1 (M.labels_left m.old) (M.labels_left m.new) (M.ephes_room m.old) (M.ephes_room m.new) }
     ensures done { LineDone (M.sizes m.old) (M.domain m.old) (M.front m.old) (line_of.GetWeak dst slot) result (M.front m.new) }
 {
-    m.stands();
+    m.shows_legal();
     let key = perform(
         m,
         rt,
@@ -160,9 +147,7 @@ fn get_slot<M: Machine, R: Wait>(m: &mut M, rt: &R, dst: u8, slot: u8) -> LineRe
 
 // A complete collection. Register 0 may hold a key still, and is emptied before.
 fn collect<M: Machine, R: Wait>(m: &mut M, rt: &R) -> LineReply
-    ensures sizes { M.sizes m.new ≡ M.sizes m.old }
-    ensures domain { M.domain m.new ≡ M.domain m.old }
-    ensures heap { M.heap m.new ≡ M.heap m.old }
+    ensures stays { Stays M.sizes M.domain M.heap m.old m.new }
     ensures takes { TakesAtMost 1 (M.labels_left m.old) (M.labels_left m.new) (M.ephes_room m.old) (M.ephes_room m.new) }
     ensures done { LineDone (M.sizes m.old) (M.domain m.old) (M.front m.old) line_of.FullMajor result (M.front m.new) }
 {
@@ -175,9 +160,7 @@ fn collect<M: Machine, R: Wait>(m: &mut M, rt: &R) -> LineReply
 pub(crate) fn run_line<M: Machine, R: Wait>(m: &mut M, rt: &R, line: TableLine) -> LineReply
     requires fits { IsSharedLine line }
     requires room { HasRoomFor 1 (M.labels_left m.old) (M.ephes_room m.old) }
-    ensures sizes { M.sizes m.new ≡ M.sizes m.old }
-    ensures domain { M.domain m.new ≡ M.domain m.old }
-    ensures heap { M.heap m.new ≡ M.heap m.old }
+    ensures stays { Stays M.sizes M.domain M.heap m.old m.new }
     ensures takes { TakesAtMost 1 (M.labels_left m.old) (M.labels_left m.new) (M.ephes_room m.old) (M.ephes_room m.new) }
     ensures done { LineDone (M.sizes m.old) (M.domain m.old) (M.front m.old) line result (M.front m.new) }
 {

@@ -3,6 +3,7 @@ ghost use Rattle.std.specs.Prelude.{◌≡◌, ◌≤◌, [], length, vec_capaci
 ghost use Rattle.std.specs.List.{AllByRecursion};
 ghost use Rattle.table_sections.specs.Lines.{HasRoomFor, IsSharedLine, TakesAtMost};
 ghost use Rattle.table_sections.specs.Sections.{SectionDone};
+ghost use Rattle.weak_maps.specs.Frames.{Stays};
 
 use crate::line::run_line;
 use std::sync::Wait;
@@ -28,9 +29,7 @@ pub fn run_section<M: Machine, R: Wait>(
     requires fits { AllByRecursion IsSharedLine lines.items }
     requires spare { HasRoomFor (length lines.items) (M.labels_left m.old) (M.ephes_room m.old) }
     requires room { (room.items ≡ []) × (length lines.items ≤ vec_capacity room) }
-    ensures sizes { M.sizes m.new ≡ M.sizes m.old }
-    ensures domain { M.domain m.new ≡ M.domain m.old }
-    ensures heap { M.heap m.new ≡ M.heap m.old }
+    ensures stays { Stays M.sizes M.domain M.heap m.old m.new }
     ensures takes { TakesAtMost (length lines.items) (M.labels_left m.old) (M.labels_left m.new)
         (M.ephes_room m.old) (M.ephes_room m.new) }
     ensures done { SectionDone (M.sizes m.old) (M.domain m.old) (M.front m.old) lines.items result.items

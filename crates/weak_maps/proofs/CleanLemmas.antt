@@ -21,7 +21,7 @@ use Rattle.weak_laws.specs.Tables.Stages.{graph_of}
 use Rattle.weak_laws.specs.Maps.Tries.{at, fields_of, found, inside, is_leaf, IsMap, IsInPlace}
 use Rattle.weak_laws.specs.Maps.Steps.{IsThinned, OthersLeave}
 use Rattle.weak_laws.specs.Maps.Calls.{HasKey, OwnKeep, PerformedBy, bound_after}
-use Rattle.weak_laws.proofs.OfMaps.FrontLemmas.{other_between, prefix_same, prefix_trans}
+use Rattle.weak_laws.proofs.OfMaps.FrontLemmas.{other_between, prefix_same, prefix_trans, walk_along}
 use Rattle.weak_laws.proofs.OfMaps.MapLemmas.{at_same, inside_same, thinned_map}
 use Rattle.weak_laws.proofs.OfMaps.OwnLemmas.{keeps_none, keeps_once, keeps_twice}
 use Rattle.weak_laws.proofs.OfMaps.RespectLemmas.{graph_push}
@@ -33,6 +33,8 @@ use Rattle.weak_maps.proofs.BesideLemmas.{until_new}
 use Rattle.weak_maps.proofs.DescendLemmas.{leaf_node, plain_node}
 use Rattle.weak_maps.proofs.GetLemmas.{grows_by}
 use Rattle.weak_maps.proofs.PlaceLemmas.{thin_place}
+use Rattle.weak_maps.proofs.StayLemmas.{quiet_looks, within_quiet}
+use Rattle.weak_maps.specs.Walks.{OwnQuiet}
 
 -- a field isn't at a place below it
 pub not_below : (p : List ℕ) (i : ℕ) → Below (p ++ i ∷ []) p → ⊥
@@ -142,6 +144,30 @@ module _ (z : Sizes) (root : Label) (d : ℕ) where
     where
       none_one : (e : Entry) → is_entry_of d e ≡ false → NoneOf d (e ∷ [])
       none_one e other = ap (λ (b : Bool). not b && true) other
+
+  -- over entries of others, and of the domain where they change no block
+  pub left_quiet : (old new : List Entry) → IsPrefix old new → OwnQuiet z d old new → OthersLeave z root d old new → IsMap (graph_of z old) root → IsInPlace z.domains (graph_of z old) root → LeftAlone z root d old new
+  left_quiet old new grows quiet leaves map placed = walk_along (LeftAlone z root d old) old new grows (λ f e since until x. left_twice old f (f ++ e ∷ []) x (one f e since until x (is_entry_of d e) refl)) (left_none old map placed)
+    where
+      one : (f : List Entry) (e : Entry) → IsPrefix old f → IsPrefix (f ++ e ∷ []) new → LeftAlone z root d old f → (own : Bool) → is_entry_of d e ≡ own → LeftAlone z root d f (f ++ e ∷ [])
+      one f e since until x false other =
+          let none : NoneOf d (e ∷ []) = ap (λ (b : Bool). not b && true) other in
+          left_one f e (leaves f e since until other) x.cleans.map x.cleans.placed (keeps_others f (e ∷ []) none) (within_others f f (e ∷ []) none)
+      one f e since until x true own =
+          let same = quiet f e since until own in
+          let once : OwnQuiet z d f (f ++ e ∷ []) = λ g h a b mine. quiet g h (prefix_trans old f g since a) (prefix_trans (g ++ h ∷ []) (f ++ e ∷ []) new b until) mine in record {
+            cleans = record {
+              keeps = (quiet_looks z root d f (f ++ e ∷ []) once).keeps;
+              within = within_quiet z root d f f (f ++ e ∷ []) once;
+              grows = record { rest = e ∷ []; appends = refl };
+              map = subst (λ (g : Graph). IsMap g root) (sym same) x.cleans.map;
+              placed = subst (λ (g : Graph). IsInPlace z.domains g root) (sym same) x.cleans.placed;
+              stood = λ q l had. subst (λ (g : Graph). HasKey g root q l) same had;
+            };
+            places = λ q. ap (λ (g : Graph). at (inside g) q (Block root)) same;
+            blocks = λ q u there. ap (λ (g : Graph). inside g u) same;
+            dead = λ q l datum there is. ap (λ (g : Graph). node_at g l) same ∙ is;
+          }
 
   -- up to a command, and behind one that changes no block
   module _ (now new : List Entry) (c : Command) (r : Reply) (p : PerformedBy z d now new c r) (leaves : OthersLeave z root d now new) (map : IsMap (graph_of z now) root) (placed : IsInPlace z.domains (graph_of z now) root) where

@@ -55,6 +55,11 @@ width_below left few = ap (λ (b : Bool). cond b root_width node_width) (not_six
     not_six true is = let same : left ≡ 6 = eqb-true left 6 is in absurd (omega (arith, same, few))
     not_six false is = refl
 
+-- how wide the block at a place is
+pub wide_at : (p : List ℕ) (left : ℕ) → length p + left ≡ 6 → width_at p ≡ width_of left
+wide_at [] left deep = let six : 6 ≡ left = omega (arith, deep) in ap width_of six
+wide_at (a ∷ p) left deep = sym (width_below left (omega (arith, deep)))
+
 -- nothing stands where there is no block, nor below
 pub nothing_there : (g : Graph) (root : Label) (here q : List ℕ) (v u : Value) (fields : List Value) → at (inside g) here (Block root) ≡ Some v → inside g v ≡ None → at (inside g) (here ++ q) (Block root) ≡ Some u → inside g u ≡ Some fields → ⊥
 nothing_there g root here [] v u fields there end at_it plain =

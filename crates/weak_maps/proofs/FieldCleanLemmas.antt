@@ -1,5 +1,5 @@
 -- The outcomes of a field that is cleaned.
-use Rattle.std.proofs.Common.{◌≡◌, ◌≢◌, ◌⊎◌, inl, inr, ⊎_elim, ℕ, zero, suc, ◌+◌, ◌-◌, ◌<◌, ◌≤◌, Bool, true, false, cond, List, [], ◌∷◌, ◌++◌, length, Some, None, refl, ap, sym, ◌∙◌, subst, arith, length-append}
+use Rattle.std.proofs.Common.{◌≡◌, ◌≢◌, ◌⊎◌, inl, inr, ⊎_elim, ℕ, zero, suc, ◌+◌, ◌-◌, ◌<◌, ◌≤◌, Bool, true, false, cond, List, [], ◌∷◌, ◌++◌, Some, None, refl, ap, sym, ◌∙◌, subst, arith, length-append}
 use Rattle.model_core.specs.declared.label.Label.{Label}
 use Rattle.model_core.specs.declared.command.Command.TheVariants.{Load, GetKey, Store}
 use Rattle.model_core.specs.declared.entry.Entry.{Entry}
@@ -20,7 +20,7 @@ use Rattle.weak_maps.specs.Beside.{held_by}
 use Rattle.weak_maps.specs.Cleans.{AtBlock, CleansBlock, CleansField, EmptiesField, width_of}
 use Rattle.weak_maps.specs.Commands.{IsBlock}
 use Rattle.weak_maps.proofs.CleanLemmas.{leaves_within}
-use Rattle.weak_maps.proofs.CleanedLemmas.{Met, Read, block_begins, block_next, block_stands, dead_field, free_field, inner_block, kept_block, live_field, meets, reads, spent_block, width_below}
+use Rattle.weak_maps.proofs.CleanedLemmas.{Met, Read, block_begins, block_next, block_stands, dead_field, free_field, inner_block, kept_block, live_field, meets, reads, spent_block, wide_at}
 use Rattle.weak_maps.proofs.GetLemmas.{grows_by}
 
 module _ (z : Sizes) (limits : IsWithinLimits z) (d : ℕ) (old n0 : List Entry) (block left i : ℕ) (few : (left ≤ 6) × (block < 14 - left)) (r0 : Reply) (p0 : PerformedBy z d old n0 (Load (14 - left) block i) r0) where
@@ -139,11 +139,6 @@ module _ (z : Sizes) (limits : IsWithinLimits z) (d : ℕ) (old n0 : List Entry)
 -- the fields of a block, one after the other
 pub block_none : (z : Sizes) (d : ℕ) (old : List Entry) (block left : ℕ) → CleansBlock z d old old block left 0 true
 block_none z d old block left root p l x leaves = block_begins z root d old p l (14 - left) block left x
-
--- how wide it is
-wide_at : (p : List ℕ) (left : ℕ) → length p + left ≡ 6 → width_at p ≡ width_of left
-wide_at [] left deep = let six : 6 ≡ left = omega (arith, deep) in ap width_of six
-wide_at (a ∷ p) left deep = sym (width_below left (omega (arith, deep)))
 
 pub block_more : (z : Sizes) (d : ℕ) (old now new : List Entry) (block left n : ℕ) (e zero_it : Bool) → (left ≤ 6) × (block < 14 - left) → n < width_of left → IsPrefix old now → IsPrefix now new → CleansBlock z d old now block left n e → CleansField z d now new block left n zero_it
     → CleansBlock z d old new block left (n + 1) (cond zero_it e false)

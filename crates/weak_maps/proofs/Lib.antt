@@ -27,6 +27,7 @@ pub mod RefusedBodies
 pub mod FollowLemmas
 pub mod CleanLemmas
 pub mod CleanedLemmas
+pub mod EmptyLemmas
 pub mod MapCleanLemmas
 pub mod FieldCleanLemmas
 pub mod OfLists

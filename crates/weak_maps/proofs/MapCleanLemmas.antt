@@ -1,7 +1,7 @@
 -- A whole map is cleaned, and the registers between are emptied.
-use Rattle.std.proofs.Common.{◌≡◌, ◌≢◌, ⊎_elim, ℕ, ◌+◌, ◌<◌, ◌≤◌, Bool, List, [], ◌∷◌, length, get_or, set, pos, Some, None, refl, ap, sym, ◌∙◌, subst, arith}
+use Rattle.std.proofs.Common.{◌≡◌, ⊎_elim, ℕ, ◌<◌, ◌≤◌, Bool, List, [], ◌∷◌, length, get_or, set, pos, Some, None, refl, ap, sym, ◌∙◌, arith}
 use Rattle.model_core.specs.declared.label.Label.{Label}
-use Rattle.model_core.specs.declared.command.Command.TheVariants.{Forget, PutInt}
+use Rattle.model_core.specs.declared.command.Command.TheVariants.{PutInt}
 use Rattle.model_core.specs.declared.entry.Entry.{Entry}
 use Rattle.model_core.specs.declared.reply.Reply.{Reply}
 use Rattle.model_core.specs.declared.graph.Value.TheVariants.{Int, Block, Nothing}
@@ -13,45 +13,25 @@ use Rattle.weak_laws.specs.Tables.Stages.{graph_of}
 use Rattle.weak_laws.specs.Maps.Tries.{at, inside, root_width, IsMap, IsInPlace}
 use Rattle.weak_laws.specs.Maps.Steps.{OthersLeave}
 use Rattle.weak_laws.specs.Maps.Calls.{CleanAnswers, HadKeys, IsTidy, PerformedBy, registers_after}
-use Rattle.weak_laws.proofs.OfMaps.CallLemmas.{forget_step, put_step}
+use Rattle.weak_laws.proofs.OfMaps.CallLemmas.{put_step}
 use Rattle.weak_laws.proofs.OfMaps.FieldLemmas.{at_field}
 use Rattle.weak_laws.proofs.OfMaps.FrontLemmas.{prefix_same, prefix_trans}
 use Rattle.weak_laws.proofs.OfMaps.OwnLemmas.{keeps_twice}
-use Rattle.weak_laws.proofs.OfMaps.WalkLemmas.{at_step, same_number}
+use Rattle.weak_laws.proofs.OfMaps.WalkLemmas.{at_step}
 use Rattle.weak_maps.specs.Beside.{held_by}
-use Rattle.weak_maps.specs.Cleans.{AtBlock, BlockCleaned, CleanLeaves, CleansBlock, ForgetsHigh, LeftAlone}
+use Rattle.weak_maps.specs.Cleans.{AtBlock, BlockCleaned, CleanLeaves, CleansBlock, EmptiedHigh, LeftAlone}
 use Rattle.weak_maps.proofs.BesideLemmas.{set_here, set_other, sixteen}
 use Rattle.weak_laws.proofs.OfMaps.WithinLemmas.{within_earlier, within_twice}
-use Rattle.weak_maps.proofs.CleanLemmas.{leaves_within, left_command, left_none, left_twice}
+use Rattle.weak_maps.proofs.CleanLemmas.{leaves_within, left_command, left_quiet}
 use Rattle.weak_maps.proofs.CleanedLemmas.{beyond, less_or, nothing_there}
 use Rattle.weak_maps.proofs.DescendLemmas.{leaf_none, still_leaf}
 use Rattle.weak_maps.proofs.GetLemmas.{grows_by}
 use Rattle.weak_maps.proofs.PlaceLemmas.{only_there}
 
 module _ (z : Sizes) (limits : IsWithinLimits z) (d : ℕ) (old : List Entry) where
-  -- no register was emptied so far
-  pub forgets_none : ForgetsHigh z d old old 8
-  forgets_none = record { clean = λ i high small. absurd (omega (arith, high, small)); low = λ i small. refl; quiet = λ root map placed leaves. left_none z root d old map placed }
-
-  -- one register more is
-  pub forgets_more : (now new : List Entry) (n : ℕ) (r : Reply) → 8 ≤ n → n < 16 → IsPrefix old now → ForgetsHigh z d old now n → PerformedBy z d now new (Forget n) r → ForgetsHigh z d old new (n + 1)
-  forgets_more now new n r high few grows x p =
-      let all = forget_step z d now new r n p in
-      let keeps : (j : ℕ) → j ≢ n → held_by z d new j ≡ held_by z d now j = set_other z d now new n Nothing all.1 in
-      let here : held_by z d new n ≡ Nothing = set_here z d now new n Nothing all.1 (sixteen z d now new (Forget n) r p limits) few in record {
-        clean = λ i above below. ⊎_elim
-            (λ same. ap (held_by z d new) same ∙ here)
-            (λ other. keeps i other ∙ x.clean i above (⊎_elim (λ less. less) (λ far. absurd (other (omega (arith, below, far)))) (less_or i n)))
-            (same_number i n);
-        low = λ i small. keeps i (λ same. absurd (omega (arith, small, high, same))) ∙ x.low i small;
-        quiet = λ root map placed leaves.
-            let y = x.quiet root map placed (leaves_within z root d old new old now (prefix_same old) (grows_by z d now new (Forget n) r p) leaves) in
-            left_twice z root d old now new y (left_command z root d now new (Forget n) r p (leaves_within z root d old new now new grows (prefix_same new) leaves) y.cleans.map y.cleans.placed all.0);
-      }
-
   -- the whole map
   pub map_cleaned : (root : Label) (n0 n1 new : List Entry) (r : Reply) (map : ℕ) (empty : Bool) → map < 8 → held_by z d old map ≡ Block root → IsMap (graph_of z old) root → IsInPlace z.domains (graph_of z old) root
-      → PerformedBy z d old n0 (PutInt 15 (pos 0)) r → CleansBlock z d n0 n1 map 6 root_width empty → ForgetsHigh z d n1 new 16 → IsPrefix n0 n1 → IsPrefix n1 new → OthersLeave z root d old new → CleanAnswers z root d old new empty × CleanLeaves z d old new root
+      → PerformedBy z d old n0 (PutInt 15 (pos 0)) r → CleansBlock z d n0 n1 map 6 root_width empty → EmptiedHigh z d n1 new 16 → IsPrefix n0 n1 → IsPrefix n1 new → OthersLeave z root d old new → CleanAnswers z root d old new empty × CleanLeaves z d old new root
   map_cleaned root n0 n1 new r map empty small held is_map placed p cleans forgets g1 g2 leaves = (
     record {
       keeps = keeps_twice z root d old n0 new (prefix_trans n0 n1 new g1 g2) zeroed.cleans.keeps (keeps_twice z root d n0 n1 new g2 y.cleans.keeps after.cleans.keeps);
@@ -99,7 +79,7 @@ module _ (z : Sizes) (limits : IsWithinLimits z) (d : ℕ) (old : List Entry) wh
       y = cleans root [] root start (leaves_within z root d old new n0 n1 g0 g2 leaves)
 
       after : LeftAlone z root d n1 new
-      after = forgets.quiet root y.cleans.map y.cleans.placed (leaves_within z root d old new n1 new (prefix_trans old n0 n1 g0 g1) (prefix_same new) leaves)
+      after = left_quiet z root d n1 new g2 forgets.quiet (leaves_within z root d old new n1 new (prefix_trans old n0 n1 g0 g1) (prefix_same new) leaves) y.cleans.map y.cleans.placed
 
       g : Graph
       g = graph_of z n1
@@ -134,6 +114,3 @@ module _ (z : Sizes) (limits : IsWithinLimits z) (d : ℕ) (old : List Entry) wh
           let only = only_there g q (get_or y.fields i Nothing) l (end_beyond i far) (sym (at_step (inside g) i q (Block root) y.fields y.plain) ∙ at_then) in
           let clash : Nothing ≡ Block l = sym (none_beyond i far) ∙ only.1 in cc)
           (less_or i root_width)
-
-pub forgets_at : (z now : Sizes) (d e : ℕ) (old new : List Entry) (n : ℕ) → now ≡ z → e ≡ d → ForgetsHigh now e old new n → ForgetsHigh z d old new n
-forgets_at z now d e old new n sizes domain x = subst (λ (w : Sizes × ℕ). ForgetsHigh w.0 w.1 old new n) (λ j. (sizes j, domain j)) x

@@ -1,4 +1,3 @@
-pub mod CountLemmas
 pub mod SpanLemmas
 pub mod SettleLemmas
 pub mod BlockLemmas

@@ -16,6 +16,7 @@ use Rattle.weak_laws.specs.Maps.Steps.{OthersLeave}
 use Rattle.weak_laws.specs.Maps.Calls.{AreZero, CleanAnswers, HasKey, OwnKeep, PerformedBy}
 use Rattle.weak_laws.specs.Maps.Within.{OwnWithin}
 use Rattle.weak_maps.specs.Beside.{held_by}
+use Rattle.weak_maps.specs.Walks.{OwnQuiet}
 
 -- how many fields a block has below which there may be so many in a row
 abbrev pub width_of : ℕ → ℕ
@@ -103,11 +104,11 @@ pub record EmptiesField (z : Sizes) (d : ℕ) (old new : List Entry) (block i : 
   pub done : Reply
   pub stored : PerformedBy z d old new (Store block i 15) done
 
--- registers 8 and more below one were emptied, by entries that write no block
-pub record ForgetsHigh (z : Sizes) (d : ℕ) (old new : List Entry) (n : ℕ) : Type 0 where
+-- registers 8 and more below one were emptied, by entries that change no block
+pub record EmptiedHigh (z : Sizes) (d : ℕ) (old new : List Entry) (n : ℕ) : Type 0 where
   pub clean : (i : ℕ) → 8 ≤ i → i < n → held_by z d new i ≡ Nothing
   pub low : (i : ℕ) → i < 8 → held_by z d new i ≡ held_by z d old i
-  pub quiet : (root : Label) → IsMap (graph_of z old) root → IsInPlace z.domains (graph_of z old) root → OthersLeave z root d old new → LeftAlone z root d old new
+  pub quiet : OwnQuiet z d old new
 
 -- a field is cleaned, of whatever block of whatever map that is, if others leave the map
 abbrev pub CleansField : Sizes → ℕ → List Entry → List Entry → ℕ → ℕ → ℕ → Bool → Type 0

@@ -1,4 +1,3 @@
-pub mod Counts
 pub mod Dead
 pub mod Sweeps
 pub mod SweepLaws

@@ -2,21 +2,16 @@
 ghost use Rattle.std.specs.Prelude.{◌≡◌, ◌-◌, ◌<◌, ◌≤◌};
 ghost use Rattle.model_core.specs.declared.command.Command.TheVariants as command;
 ghost use Rattle.weak_laws.specs.Maps.Calls.{PerformedBy};
-ghost use Rattle.weak_maps.specs.Cleans.{CleansAt, CleansBlock, CleansField, EmptiesField, ForgetsHigh, width_of};
+ghost use Rattle.weak_maps.specs.Cleans.{CleansAt, CleansBlock, CleansField, EmptiesField, width_of};
 ghost use Rattle.weak_maps.specs.Frames.{Leaves};
 
+use crate::digits::width_of;
+use crate::emptying::forget_high;
 use crate::machine::{Machine, perform};
 use crate::replies::{is_block, is_empty, is_other_kind};
 use model_core::command::Command;
 use model_core::reply::Reply;
 use std::sync::Wait;
-
-// How many fields a block has below which there may be so many blocks in a row.
-fn width_of(left: u8) -> u16
-    ensures { result ≡ width_of left }
-{
-    if left == 6 { 512 } else { 32 }
-}
 
 // Reads a field of the block in a register.
 fn read_field<M: Machine, R: Wait>(m: &mut M, rt: &R, value: u8, block: u8, index: u16) -> Reply
@@ -116,17 +111,6 @@ fn clean_block<M: Machine, R: Wait>(m: &mut M, rt: &R, block: u8, left: u8) -> b
         }
     }
     empty
-}
-
-// Empties registers 8 to 15.
-fn forget_high<M: Machine, R: Wait>(m: &mut M, rt: &R)
-    ensures leaves { Leaves M.sizes M.domain M.heap M.front M.labels_left M.ephes_room m.old m.new }
-    ensures forgot { ForgetsHigh (M.sizes m.old) (M.domain m.old) (M.front m.old) (M.front m.new) 16 }
-{
-    m.shows_legal();
-    'registers: for dst in 8..16u8 {
-        let _empty = perform(m, rt, Command::Forget { dst });
-    }
 }
 
 /// Cleans the map in a register, which no other domain uses meanwhile: the fields of leaves that have lost their key are

@@ -1,5 +1,6 @@
 //! The way to a key: the digits of its number.
 ghost use Rattle.std.specs.Prelude.{◌≡◌, ◌≤◌, ◌<◌, ◌%◌, ◌^◌};
+ghost use Rattle.weak_maps.specs.Cleans.{width_of};
 ghost use Rattle.weak_maps.specs.Puts.{rest_of};
 ghost use Rattle.weak_laws.specs.Maps.Tries.{node_width, number_of as number_in, root_width};
 
@@ -36,6 +37,13 @@ pub fn rest_below(number: u64, level: u8) -> u64
         rest /= 32;
     }
     rest
+}
+
+/// How many fields a block has below which there may be so many blocks in a row.
+pub fn width_of(left: u8) -> u16
+    ensures { result ≡ width_of left }
+{
+    if left == 6 { 512 } else { 32 }
 }
 
 /// The serial of a label is a number of 32 bits.

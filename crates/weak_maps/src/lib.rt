@@ -3,6 +3,7 @@
 
 pub mod cleaning;
 pub mod digits;
+mod emptying;
 pub mod getting;
 pub mod lists;
 pub mod machine;

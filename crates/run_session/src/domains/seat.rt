@@ -110,7 +110,7 @@ impl<'a> Machine for SeatDomain<'a> {
 
     ghost ephes_room = { λ d. d.seat.room };
 
-    fn stands(&self) {
+    fn shows_legal(&self) {
         self.seat.labels_left();
     }
 

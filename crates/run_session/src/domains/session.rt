@@ -76,7 +76,7 @@ impl Machine for SessionDomain {
 
     ghost ephes_room = { λ s. s.room };
 
-    fn stands(&self) {
+    fn shows_legal(&self) {
         self.session.shows_legal();
         self.session.labels_left();
     }

@@ -27,7 +27,7 @@ impl<M: Machine> MapMachine for OneDomain<M> {
 
     ghost ephes_room = { λ d. M.ephes_room d.machine };
 
-    fn stands(&self) {
+    fn shows_legal(&self) {
         self.machine.shows_legal();
     }
 

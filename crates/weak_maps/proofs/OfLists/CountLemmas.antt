@@ -32,7 +32,7 @@ use Rattle.weak_maps.specs.Cleans.{width_of}
 use Rattle.weak_maps.specs.Commands.{IsBlock}
 use Rattle.weak_maps.specs.Walks.{OwnQuiet}
 use Rattle.weak_maps.proofs.BesideLemmas.{same_held, set_here, set_other, sixteen}
-use Rattle.weak_maps.proofs.CleanedLemmas.{width_below}
+use Rattle.weak_maps.proofs.CleanedLemmas.{wide_at}
 use Rattle.weak_laws.specs.Lists.Lists.{bindings_below}
 use Rattle.weak_laws.proofs.OfLists.ListLemmas.{below_end, below_plain, at_more}
 use Rattle.weak_laws.proofs.OfLists.StepLemmas.{thinned_below}
@@ -94,10 +94,6 @@ sum_less f h (x ∷ xs) each (suc n) =
     let a = length-append (h x) (flat_map h (take n xs)) in
     let b = length-append (f x) (flat_map f (take n xs)) in
     omega (arith, first, rest, a, b)
-
-wide_at : (p : List ℕ) (left : ℕ) → length p + left ≡ 6 → width_at p ≡ width_of left
-wide_at [] left deep = let six : 6 ≡ left = omega (arith, deep) in ap width_of six
-wide_at (a ∷ p) left deep = sym (width_below left (omega (arith, deep)))
 
 module _ (z : Sizes) (limits : IsWithinLimits z) (one : z.domains ≡ 1) where
   -- nothing was counted so far

@@ -1,69 +1,41 @@
 -- A whole map is counted, and the registers between are emptied.
-use Rattle.std.proofs.Common.{◌≡◌, ⊎_elim, ℕ, leb, true, false, ◌+◌, ◌<◌, ◌≤◌, List, [], ◌∷◌, ◌++◌, length, take, flat_map, refl, ap, sym, ◌∙◌, subst, arith}
+use Rattle.std.proofs.Common.{◌≡◌, ⊎_elim, ℕ, leb, true, false, ◌+◌, ◌<◌, ◌≤◌, List, [], length, take, flat_map, refl, ap, sym, ◌∙◌, arith}
 use Rattle.std.proofs.lemmas.Bool.Decides.{leb_tells}
 use Rattle.std.proofs.lemmas.List.{take_all}
 use Rattle.model_core.specs.declared.command.Command.TheVariants.{Forget}
 use Rattle.model_core.specs.declared.entry.Entry.{Entry}
 use Rattle.model_core.specs.declared.graph.Value.{Value}
 use Rattle.model_core.specs.declared.graph.Value.TheVariants.{Block, Nothing}
-use Rattle.model_core.specs.declared.reply.Reply.{Reply}
 use Rattle.model_core.specs.declared.state.Sizes.{Sizes}
-use Rattle.model_core.specs.Domains.{IsWithinLimits, domain_at, shared_label}
+use Rattle.model_core.specs.Domains.{IsWithinLimits, domain_at}
 use Rattle.model_core.specs.History.{IsPrefix, Legal}
 use Rattle.weak_laws.specs.Tables.Thinning.{WasOutside, state_of}
 use Rattle.weak_laws.specs.Tables.Stages.{Goes, graph_of, held_in}
 use Rattle.weak_laws.proofs.OfTables.WalkLemmas.{thinned_length}
 use Rattle.weak_laws.specs.Maps.Tries.{inside, root_width}
-use Rattle.weak_laws.specs.Maps.Calls.{PerformedBy, registers_after}
-use Rattle.weak_laws.proofs.OfMaps.CallLemmas.{forget_step, grows as step_grows}
+use Rattle.weak_laws.specs.Maps.Calls.{registers_after}
+use Rattle.weak_laws.proofs.OfMaps.CallLemmas.{grows as step_grows}
 use Rattle.weak_laws.proofs.OfMaps.FrontLemmas.{prefix_trans}
-use Rattle.weak_laws.proofs.OfMaps.OwnLemmas.{at_the_end}
-use Rattle.weak_laws.proofs.OfMaps.WalkLemmas.{same_number}
 use Rattle.weak_maps.specs.Walks.{OwnQuiet}
-use Rattle.weak_maps.proofs.BesideLemmas.{set_here, set_other, sixteen}
 use Rattle.weak_laws.specs.Lists.Lists.{bindings_below}
 use Rattle.weak_laws.proofs.OfLists.ListLemmas.{below_plain, listed}
 use Rattle.weak_maps.specs.Lists.Stretches.{Forgets, bound_in}
-use Rattle.weak_maps.specs.Lists.Counts.{AtBlock, BlockCounted, CountsBlock, ForgetsUsed, many_in, most_counted}
+use Rattle.weak_maps.specs.Lists.Counts.{AtBlock, BlockCounted, CountsBlock, many_in, most_counted}
 use Rattle.weak_maps.specs.Lists.Answers.{ListCountsAt}
 use Rattle.weak_maps.proofs.OfLists.AloneLemmas.{legal_before, registers_many}
 use Rattle.weak_maps.proofs.OfLists.CallLemmas.{last_quiet, low_kept, past_end, settled}
-use Rattle.weak_maps.proofs.OfLists.CountLemmas.{looks_none, looks_twice, plain_new, quiet_twice}
+use Rattle.weak_maps.proofs.OfLists.CountLemmas.{plain_new, quiet_twice}
 use Rattle.weak_maps.proofs.OfLists.DeclineLemmas.{HasMany, declines}
 use Rattle.weak_maps.proofs.OfLists.FewLemmas.{few_bound}
 use Rattle.weak_maps.proofs.OfLists.StretchLemmas.{quiet_goes, reads_list}
-
--- no register was emptied so far
-pub forgets_none : (z : Sizes) (old : List Entry) → ForgetsUsed z old old 8
-forgets_none z old = record { looks = looks_none z old 8; clean = λ i high few. absurd (omega (arith, high, few)) }
-
--- one more is
-pub forgets_more : (z : Sizes) (limits : IsWithinLimits z) (old now new : List Entry) (n : ℕ) (r : Reply) → 8 ≤ n → n < 16 → ForgetsUsed z old now n → PerformedBy z 0 now new (Forget n) r → ForgetsUsed z old new (n + 1)
-forgets_more z limits old now new n r high few x p = record {
-  looks = looks_twice z old now new 8 (step_grows z 0 now new (Forget n) r p) x.looks (record { quiet = quiet; low = λ i small. keeps i (λ e. omega (arith, e, small, high)) });
-  clean = λ i above below. ⊎_elim (λ same. ap (held_in z new) same ∙ here) (λ other. keeps i other ∙ x.clean i above (smaller i below other)) (same_number i n);
-}
-  where
-    keeps : (j : ℕ) → (j ≡ n → ⊥) → held_in z new j ≡ held_in z now j
-    keeps = set_other z 0 now new n Nothing (forget_step z 0 now new r n p).1
-
-    here : held_in z new n ≡ Nothing
-    here = set_here z 0 now new n Nothing (forget_step z 0 now new r n p).1 (sixteen z 0 now new (Forget n) r p limits) few
-
-    smaller : (i : ℕ) → i < n + 1 → (i ≡ n → ⊥) → i < n
-    smaller i below other = ⊎_elim (λ more. absurd (other (let far = more.1 in omega (arith, below, far)))) (λ less. less.1) (leb_tells n i)
-
-    quiet : OwnQuiet z 0 now new
-    quiet f e since until own =
-        let is = at_the_end z shared_label 0 now new (Forget n) r p f e since until own in
-        subst (λ (w : List Entry × Entry). graph_of z (w.0 ++ w.1 ∷ []) ≡ graph_of z w.0) (λ t. (sym is.0 t, sym is.1 t)) (ap (graph_of z) (sym p.appends) ∙ (forget_step z 0 now new r n p).0)
+use Rattle.weak_maps.specs.Cleans.{EmptiedHigh}
 
 -- the whole map
 pub map_counted : (z : Sizes) (limits : IsWithinLimits z) (one : z.domains ≡ 1) (old mid last new : List Entry) (map count left : ℕ) → (domain_at (state_of z old) 0).serial + left ≡ 4294967295 → IsPrefix old mid → IsPrefix mid last
-    → CountsBlock z old mid map 6 root_width count → ForgetsUsed z mid last 16 → Forgets z 0 last new → ListCountsAt z old new map count
+    → CountsBlock z old mid map 6 root_width count → EmptiedHigh z 0 mid last 16 → Forgets z 0 last new → ListCountsAt z old new map count
 map_counted z limits one old mid last new map count left given g0 g1 counts forgot f root held listed_old = record {
   reads = reads_list z old new root goes listed_old;
-  keeps = low_kept z limits one root old last new g01 listed_old f.reply f.performed (λ r small. forgot.looks.low r small ∙ b.looks.low r small);
+  keeps = low_kept z limits one root old last new g01 listed_old f.reply f.performed (λ r small. forgot.low r small ∙ b.looks.low r small);
   settled = settled z limits one root old last new g01 listed_old f.reply f.performed emptied;
   front = many.front;
   before = many.before;
@@ -92,7 +64,7 @@ map_counted z limits one old mid last new map count left given g0 g1 counts forg
     b = counts root [] root at_root
 
     behind_mid : OwnQuiet z 0 mid new
-    behind_mid = quiet_twice z mid last new g2 forgot.looks.quiet (last_quiet z limits one root old last new g01 listed_old f.reply f.performed)
+    behind_mid = quiet_twice z mid last new g2 forgot.quiet (last_quiet z limits one root old last new g01 listed_old f.reply f.performed)
 
     quiet : OwnQuiet z 0 old new
     quiet = quiet_twice z old mid new (prefix_trans mid last new g1 g2) b.looks.quiet behind_mid

@@ -26,7 +26,7 @@ use Rattle.weak_maps.specs.Crowds.{PutCounts}
 use Rattle.weak_maps.specs.Returns.{GetReturns, PutReturns, TakeReturns}
 use Rattle.weak_maps.specs.Lists.Stretches.{Forgets, IsListed}
 use Rattle.weak_maps.specs.Lists.Answers.{ListCleansAt, ListGetAnswers, ListGetsAt, ListPutAnswers, ListPutsAt, ListTakeAnswers, ListTakesAt}
-use Rattle.weak_maps.specs.Lists.Counts.{CountsBlock, CountsField, ForgetsUsed}
+use Rattle.weak_maps.specs.Lists.Counts.{CountsBlock, CountsField}
 use Rattle.weak_maps.proofs.OfLists.AloneLemmas.{collects, legal_before}
 use Rattle.weak_maps.proofs.OfLists.CallLemmas.{clean_list, get_list, of_clean, of_take, put_list, take_list}
 
@@ -288,9 +288,6 @@ counts_field_at z z2 old new block left i count same x = subst (λ (w : Sizes). 
 
 pub counts_block_at : (z z2 : Sizes) (old new : List Entry) (block left n count : ℕ) → z2 ≡ z → CountsBlock z2 old new block left n count → CountsBlock z old new block left n count
 counts_block_at z z2 old new block left n count same x = subst (λ (w : Sizes). CountsBlock w old new block left n count) same x
-
-pub used_at : (z z2 : Sizes) (old new : List Entry) (n : ℕ) → z2 ≡ z → ForgetsUsed z2 old new n → ForgetsUsed z old new n
-used_at z z2 old new n same x = subst (λ (w : Sizes). ForgetsUsed w old new n) same x
 
 pub forgets_first : (z z2 : Sizes) (d : ℕ) (old new : List Entry) → z2 ≡ z → d ≡ 0 → Forgets z2 d old new → Forgets z 0 old new
 forgets_first z z2 d old new same first x = forgets_at z z2 0 d old new same first x

@@ -1,42 +1,30 @@
 -- The fields of a block are swept one after the other, and a whole map.
 use Rattle.std.proofs.Common.{◌≡◌, ◌≢◌, ◌⊎◌, inl, inr, ⊎_elim, ℕ, zero, suc, ◌+◌, ◌-◌, ◌<◌, ◌≤◌, Bool, true, false, List, [], ◌∷◌, ◌++◌, length, get_or, Some, None, refl, ap, sym, ◌∙◌, subst, arith, append_assoc, append-nil, length-append}
 use Rattle.model_core.specs.declared.label.Label.{Label}
-use Rattle.model_core.specs.declared.command.Command.TheVariants.{Forget}
 use Rattle.model_core.specs.declared.entry.Entry.{Entry}
 use Rattle.model_core.specs.declared.graph.Value.{Value}
 use Rattle.model_core.specs.declared.graph.Value.TheVariants.{Block, Nothing}
-use Rattle.model_core.specs.declared.reply.Reply.{Reply}
 use Rattle.model_core.specs.declared.state.Sizes.{Sizes}
 use Rattle.model_core.specs.Domains.{IsWithinLimits}
 use Rattle.model_core.specs.History.{IsPrefix}
 use Rattle.weak_laws.specs.Tables.Stages.{graph_of}
-use Rattle.weak_laws.specs.Maps.Tries.{at, inside, is_leaf, root_width, width_at}
+use Rattle.weak_laws.specs.Maps.Tries.{at, inside, is_leaf, root_width}
 use Rattle.weak_laws.specs.Maps.Steps.{OthersRespect}
-use Rattle.weak_laws.specs.Maps.Calls.{PerformedBy}
 use Rattle.weak_laws.specs.Maps.Within.{StandsIn}
-use Rattle.weak_laws.proofs.OfMaps.CallLemmas.{forget_step}
 use Rattle.weak_laws.proofs.OfMaps.FrontLemmas.{prefix_same, prefix_trans}
 use Rattle.weak_laws.proofs.OfMaps.WalkLemmas.{same_number}
-use Rattle.weak_maps.specs.Beside.{held_by}
-use Rattle.weak_maps.specs.Cleans.{width_of}
-use Rattle.weak_maps.proofs.BesideLemmas.{set_here, set_other, sixteen}
-use Rattle.weak_maps.proofs.CleanedLemmas.{beyond, less_or, width_below}
+use Rattle.weak_maps.specs.Cleans.{EmptiedHigh, width_of}
+use Rattle.weak_maps.proofs.CleanedLemmas.{beyond, less_or, wide_at}
 use Rattle.weak_maps.proofs.DescendLemmas.{at_append, at_one}
 use Rattle.weak_maps.proofs.PlaceLemmas.{only_there, place_after}
-use Rattle.weak_maps.proofs.StayLemmas.{no_entry, quiet_on}
 use Rattle.weak_maps.specs.Sweeps.Dead.{OthersBringNoDead, StandsDead, StoodDead}
-use Rattle.weak_maps.specs.Sweeps.Sweeps.{AtBlock, BlockSwept, EmptiedHigh, FieldSwept, NoDeadAt, Settled, SweepReturns, SweepsBlock, SweepsField}
+use Rattle.weak_maps.specs.Sweeps.Sweeps.{AtBlock, BlockSwept, FieldSwept, NoDeadAt, Settled, SweepReturns, SweepsBlock, SweepsField}
 use Rattle.weak_maps.proofs.OfSweeps.SettleLemmas.{block_later}
 use Rattle.weak_maps.proofs.OfSweeps.SpanLemmas.{Span, brings_within, clear_none, clear_twice, dead_end, no_dead_earlier, span_all, span_brings, span_dead, span_down, span_looks, span_map, span_others_bring, span_own_within, span_pinned, span_twice}
 
 -- others respect a part of a stretch
 respects_part : (z : Sizes) (root : Label) (d : ℕ) (old new a b : List Entry) → IsPrefix old a → IsPrefix b new → OthersRespect z root d old new → OthersRespect z root d a b
 respects_part z root d old new a b first last x f e since until other = x f e (prefix_trans old a f first since) (prefix_trans (f ++ e ∷ []) b new until last) other
-
--- how wide a block is
-wide_at : (p : List ℕ) (left : ℕ) → length p + left ≡ 6 → width_at p ≡ width_of left
-wide_at [] left deep = let six : 6 ≡ left = omega (arith, deep) in ap width_of six
-wide_at (a ∷ p) left deep = sym (width_below left (omega (arith, deep)))
 
 positive : (m : ℕ) → m ≢ 0 → m - 1 + 1 ≡ m
 positive m other = ⊎_elim (λ e. absurd (other e)) (λ more. omega (arith, more)) (none_or m)
@@ -146,31 +134,7 @@ field_at z now d e old new block left i sizes domain x = subst (λ (w : Sizes ×
 pub block_at : (z now : Sizes) (d e : ℕ) (old new : List Entry) (block left n : ℕ) → now ≡ z → e ≡ d → SweepsBlock now e old new block left n → SweepsBlock z d old new block left n
 block_at z now d e old new block left n sizes domain x = subst (λ (w : Sizes × ℕ). SweepsBlock w.0 w.1 old new block left n) (λ j. (sizes j, domain j)) x
 
-pub emptied_at : (z now : Sizes) (d e : ℕ) (old new : List Entry) (n : ℕ) → now ≡ z → e ≡ d → EmptiedHigh now e old new n → EmptiedHigh z d old new n
-emptied_at z now d e old new n sizes domain x = subst (λ (w : Sizes × ℕ). EmptiedHigh w.0 w.1 old new n) (λ j. (sizes j, domain j)) x
-
 module _ (z : Sizes) (limits : IsWithinLimits z) (d : ℕ) (old : List Entry) where
-  -- no register was emptied so far
-  pub emptied_none : EmptiedHigh z d old old 8
-  emptied_none = record { clean = λ r high small. absurd (omega (arith, high, small)); low = λ r small. refl; quiet = λ front e since until mine. absurd (no_entry old front e since until) }
-
-  -- one register more is
-  pub emptied_more : (now new : List Entry) (n : ℕ) (r : Reply) → 8 ≤ n → n < 16 → EmptiedHigh z d old now n → PerformedBy z d now new (Forget n) r → EmptiedHigh z d old new (n + 1)
-  emptied_more now new n r high few x p =
-      let all = forget_step z d now new r n p in
-      let keeps : (j : ℕ) → j ≢ n → held_by z d new j ≡ held_by z d now j = set_other z d now new n Nothing all.1 in
-      let gone : held_by z d new n ≡ Nothing = set_here z d now new n Nothing all.1 (sixteen z d now new (Forget n) r p limits) few in record {
-        clean = λ i above below. ⊎_elim
-            (λ same. ap (held_by z d new) same ∙ gone)
-            (λ other. keeps i other ∙ x.clean i above (⊎_elim (λ less. less) (λ far. absurd (other (omega (arith, below, far)))) (less_or i n)))
-            (same_number i n);
-        low = λ i small. keeps i (λ same. absurd (omega (arith, small, high, same))) ∙ x.low i small;
-        quiet = quiet_on z any_root d old now new (Forget n) r p all.0 x.quiet;
-      }
-    where
-      any_root : Label
-      any_root = record { domain = 0; serial = 0 }
-
   -- the whole map
   pub map_swept : (n1 new : List Entry) (map : ℕ) → map < 8 → SweepsBlock z d old n1 map 6 root_width → EmptiedHigh z d n1 new 16 → IsPrefix old n1 → IsPrefix n1 new → SweepReturns z d old new map
   map_swept n1 new map small swept emptied g0 g1 root held is_map respects = (

@@ -57,8 +57,3 @@ pub record BlockCounted (z : Sizes) (old new : List Entry) (fields : List Value)
 
 abbrev pub CountsBlock : Sizes → List Entry → List Entry → ℕ → ℕ → ℕ → ℕ → Type 0
 CountsBlock z old new block left n count = (root : Label) (p : List ℕ) (l : Label) → (x : AtBlock z old root p l block left) → BlockCounted z old new x.fields left n count
-
--- registers from 8 on below one were emptied
-pub record ForgetsUsed (z : Sizes) (old new : List Entry) (n : ℕ) : Type 0 where
-  pub looks : LooksOnly z old new 8
-  pub clean : (i : ℕ) → 8 ≤ i → i < n → held_in z new i ≡ Nothing

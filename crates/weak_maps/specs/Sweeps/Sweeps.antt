@@ -15,7 +15,6 @@ use Rattle.weak_laws.specs.Maps.Calls.{Looks, PerformedBy}
 use Rattle.weak_laws.specs.Maps.Within.{OwnWithin, StandsIn}
 use Rattle.weak_maps.specs.Beside.{held_by}
 use Rattle.weak_maps.specs.Commands.{IsBlock}
-use Rattle.weak_maps.specs.Walks.{OwnQuiet}
 use Rattle.weak_maps.specs.declared.sweeps.sweeping.Held.{Held}
 use Rattle.weak_maps.specs.declared.sweeps.sweeping.Held.TheVariants.{Free, Live, Dead, Inner}
 use Rattle.weak_maps.specs.Sweeps.Dead.{OthersBringNoDead, OwnBringNoDead, OwnClear, StandsDead, StoodDead}
@@ -107,12 +106,6 @@ pub record BlockSwept (z : Sizes) (d : ℕ) (old new : List Entry) (root : Label
 
 abbrev pub SweepsBlock : Sizes → ℕ → List Entry → List Entry → ℕ → ℕ → ℕ → Type 0
 SweepsBlock z d old new block left n = (root : Label) (p : List ℕ) (l : Label) → AtBlock z d old root p l block left → OthersRespect z root d old new → BlockSwept z d old new root p (14 - left) n
-
--- registers 8 and more below one were emptied, by entries that change no block
-pub record EmptiedHigh (z : Sizes) (d : ℕ) (old new : List Entry) (n : ℕ) : Type 0 where
-  pub clean : (r : ℕ) → 8 ≤ r → r < n → held_by z d new r ≡ Nothing
-  pub low : (r : ℕ) → r < 8 → held_by z d new r ≡ held_by z d old r
-  pub quiet : OwnQuiet z d old new
 
 -- A sweep changes no binding, and does to the map only what others may rely on: each of its entries leaves all blocks, or takes a leaf that binds nothing out.
 -- No leaf stands in the map then that stood there dead when it began. Its own entries bring none

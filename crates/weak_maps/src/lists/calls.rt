@@ -1,7 +1,6 @@
 //! The calls on a map, for a heap of one domain. Each says of the list of the map's bindings what it answers and leaves, and
 //! ends with a command, so that no collection is under way behind it.
-ghost use Rattle.std.specs.Prelude.{◌≡◌, ◌↔◌, ◌+◌, ◌<◌, ◌≤◌, true};
-ghost use Rattle.model_core.specs.declared.reply.Reply.TheVariants as variant;
+ghost use Rattle.std.specs.Prelude.{◌≡◌, ◌+◌, ◌<◌, ◌≤◌};
 ghost use Rattle.weak_laws.specs.Tables.Performing.{is_spared};
 ghost use Rattle.weak_maps.specs.Lists.Stretches.{Forgets, HoldsList};
 ghost use Rattle.weak_maps.specs.Lists.Answers.{ListCleansAt, ListGetsAt, ListMakeAnswers, ListPutsAt, ListTakesAt};
@@ -12,17 +11,11 @@ use crate::cleaning::map_clean;
 use crate::getting::map_get;
 use crate::machine::{Machine, perform};
 use crate::putting::map_put;
+use crate::replies::is_other_kind;
 use crate::taking::map_take;
 use model_core::command::Command;
 use model_core::reply::Reply;
 use std::sync::Wait;
-
-// Whether a reply says that a register holds nothing of the kind that was asked for.
-pub(crate) fn is_other_kind(reply: &Reply) -> bool
-    ensures { (result ≡ true) ↔ (reply.now ≡ variant.BadType) }
-{
-    matches!(reply, Reply::BadType)
-}
 
 // Empties register 8 once more, which holds nothing: no collection is under way then.
 pub(crate) fn settle<M: Machine, R: Wait>(m: &mut M, rt: &R)

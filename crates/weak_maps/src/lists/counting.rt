@@ -2,23 +2,18 @@
 ghost use Rattle.std.specs.Prelude.{◌≡◌, ◌-◌, ◌<◌, ◌≤◌};
 ghost use Rattle.weak_maps.specs.Cleans.{width_of};
 ghost use Rattle.weak_maps.specs.Lists.Stretches.{HoldsList};
-ghost use Rattle.weak_maps.specs.Lists.Counts.{CountsBlock, CountsField, ForgetsUsed};
+ghost use Rattle.weak_maps.specs.Lists.Counts.{CountsBlock, CountsField};
 ghost use Rattle.weak_maps.specs.Lists.Answers.{ListCountsAt};
 ghost use Rattle.weak_maps.specs.Frames.{Leaves};
 ghost use Rattle.weak_maps.specs.Lists.Frames.{LeavesAlone};
 
-use crate::lists::calls::{is_other_kind, settle};
+use crate::digits::width_of;
+use crate::emptying::forget_high;
+use crate::lists::calls::settle;
 use crate::machine::{Machine, perform};
-use crate::replies::{is_block, is_empty};
+use crate::replies::{is_block, is_empty, is_other_kind};
 use model_core::command::Command;
 use std::sync::Wait;
-
-// How many fields a block has below which there may be so many blocks in a row.
-fn width_of(left: u8) -> u16
-    ensures { result ≡ width_of left }
-{
-    if left == 6 { 512 } else { 32 }
-}
 
 // Counts the keys of leaves from a field of the block in a register on, below which there may be so many blocks in a row.
 #[cycle(counting)]
@@ -83,18 +78,6 @@ fn count_block<M: Machine, R: Wait>(m: &mut M, rt: &R, block: u8, left: u8) -> u
     count
 }
 
-// Empties registers 8 to 15.
-fn forget_used<M: Machine, R: Wait>(m: &mut M, rt: &R)
-    requires alone { (M.sizes m.old).domains ≡ 1 }
-    ensures leaves { Leaves M.sizes M.domain M.heap M.front M.labels_left M.ephes_room m.old m.new }
-    ensures forgot { ForgetsUsed (M.sizes m.old) (M.front m.old) (M.front m.new) 16 }
-{
-    m.shows_legal();
-    'registers: for dst in 8..16u8 {
-        let _empty = perform(m, rt, Command::Forget { dst });
-    }
-}
-
 /// The number of bindings of the map in a register, at some front of the call: the collector may take bindings whose key isn't
 /// reached while it goes on. Nothing is written. The register is below 8. Registers below 8 hold what they held, and the others
 /// nothing.
@@ -108,7 +91,7 @@ pub fn map_count<M: Machine, R: Wait>(m: &mut M, rt: &R, map: u8) -> u32
     m.shows_legal();
     let count = count_block(m, rt, map, 6);
     m.shows_legal();
-    forget_used(m, rt);
+    forget_high(m, rt);
     m.shows_legal();
     settle(m, rt);
     m.shows_legal();

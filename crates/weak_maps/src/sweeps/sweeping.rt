@@ -1,10 +1,12 @@
 //! Maps that are swept while other domains use them.
 ghost use Rattle.std.specs.Prelude.{◌≡◌, ◌-◌, ◌<◌, ◌≤◌, true, ◌↔◌};
 ghost use Rattle.weak_maps.specs.Cleans.{width_of};
-ghost use Rattle.weak_maps.specs.Sweeps.Sweeps.{EmptiedHigh, Exchanged, Peeks, Settled, SweepReturns, SweepsBlock, SweepsField};
+ghost use Rattle.weak_maps.specs.Sweeps.Sweeps.{Exchanged, Peeks, Settled, SweepReturns, SweepsBlock, SweepsField};
 ghost use Rattle.weak_maps.specs.declared.sweeps.sweeping.Held.TheVariants.{Dead, Inner};
 ghost use Rattle.weak_maps.specs.Frames.{Leaves};
 
+use crate::digits::width_of;
+use crate::emptying::forget_high;
 use crate::machine::{Machine, perform};
 use crate::replies::{is_block, is_empty};
 use model_core::command::Command;
@@ -36,13 +38,6 @@ fn is_inner(held: Held) -> bool
     ensures { (result ≡ true) ↔ (held ≡ Inner) }
 {
     matches!(held, Held::Inner)
-}
-
-// How many fields a block has below which there may be so many in a row.
-fn width_below(left: u8) -> u16
-    ensures { result ≡ width_of left }
-{
-    if left == 6 { 512 } else { 32 }
 }
 
 // Reads a field of the block in a register into another. Register 15 holds the key of a leaf that it met.
@@ -146,19 +141,8 @@ fn sweep_block<M: Machine, R: Wait>(m: &mut M, rt: &R, block: u8, left: u8)
     ensures swept { SweepsBlock (M.sizes m.old) (M.domain m.old) (M.front m.old) (M.front m.new) block left (width_of left) }
 {
     m.shows_legal();
-    'fields: for index in 0..width_below(left) {
+    'fields: for index in 0..width_of(left) {
         sweep_field(m, rt, block, left, index);
-    }
-}
-
-// Empties registers 8 to 15.
-fn forget_high<M: Machine, R: Wait>(m: &mut M, rt: &R)
-    ensures leaves { Leaves M.sizes M.domain M.heap M.front M.labels_left M.ephes_room m.old m.new }
-    ensures forgot { EmptiedHigh (M.sizes m.old) (M.domain m.old) (M.front m.old) (M.front m.new) 16 }
-{
-    m.shows_legal();
-    'registers: for dst in 8..16u8 {
-        let _empty = perform(m, rt, Command::Forget { dst });
     }
 }
 

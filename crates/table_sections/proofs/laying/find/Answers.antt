@@ -24,4 +24,4 @@ returns-clause-found g c same =
     let z : Sizes = g.M.Machine.sizes c.args.m.now in
     let d : ℕ = g.M.Machine.domain c.args.m.now in
     let are : c.load.result ∷ c.load-2.result ∷ c.load-3.result ∷ command.GetKey 6 7 7 ∷ [] ≡ loading = λ i. c.load.ensures.command i ∷ c.load-2.ensures.command i ∷ c.load-3.ensures.command i ∷ command.GetKey 6 7 7 ∷ [] in
-    found_by z _ d _ _ _ _ _ c.args.places c.places_of.result c.make_each.ensures.sizes c.make_each.ensures.domain c.places_of.ensures.front are c.make_each.ensures.made c.places_of.ensures.holds (places_same c.places_of.result c.args.places (sym c.eq.ensures ∙ same))
+    found_by z _ d _ _ _ _ _ c.args.places c.places_of.result c.make_each.ensures.stays.sizes c.make_each.ensures.stays.domain c.places_of.ensures.front are c.make_each.ensures.made c.places_of.ensures.holds (places_same c.places_of.result c.args.places (sym c.eq.ensures ∙ same))

@@ -14,5 +14,5 @@ returns-clause-done g c =
     let d : ℕ = g.M.Machine.domain c.args.m.now in
     let mid : List Entry = g.M.Machine.front c.perform-nothing.new.m in
     let new : List Entry = g.M.Machine.front c.perform-live.new.m in
-    let live : PerformedBy z d mid new FullMajor c.perform-live.result = at_machine z _ d _ mid new FullMajor c.perform-live.result c.perform-nothing.ensures.sizes c.perform-nothing.ensures.domain c.perform-live.ensures.performed in
+    let live : PerformedBy z d mid new FullMajor c.perform-live.result = at_machine z _ d _ mid new FullMajor c.perform-live.result c.perform-nothing.ensures.spends.stays.sizes c.perform-nothing.ensures.spends.stays.domain c.perform-live.ensures.performed in
     collect_done z d _ mid new c.perform-nothing.result c.perform-live.result c.perform-nothing.ensures.performed live reply.Done refl

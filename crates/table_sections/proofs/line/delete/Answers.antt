@@ -16,8 +16,8 @@ returns-clause-done g c =
     let new : List Entry = g.M.Machine.front c.map_take-reply.new.m in
     let left : ℕ = g.M.Machine.labels_left c.map_take-reply.new.m in
     let x = c.map_take-reply.ensures in
-    let serial : made_by z d new + left ≡ 4294967295 = subst (λ (w : Sizes × ℕ). made_by w.0 w.1 new + left ≡ 4294967295) (λ i. (x.sizes i, x.domain i)) c.stands-2.ensures.labels in
-    let few = x.written in
-    let made = none_made _ _ _ _ c.stands.ensures.labels serial x.labels in
+    let serial : made_by z d new + left ≡ 4294967295 = subst (λ (w : Sizes × ℕ). made_by w.0 w.1 new + left ≡ 4294967295) (λ i. (x.leaves.stays.sizes i, x.leaves.stays.domain i)) c.shows_legal-2.ensures.labels in
+    let few = x.leaves.written in
+    let made = none_made _ _ _ _ c.shows_legal.ensures.labels serial x.leaves.labels in
     subst (λ (a : LineReply). LineDone z d old (line_of.Del c.args.reg) a new) (sym c.said.ensures)
-    (delete_done z d old new c.args.reg c.map_take-reply.result x.grows (makes_none z d old new c.map_take-reply.result made x.given x.granted (omega (arith, few))) x.guards x.answer)
+    (delete_done z d old new c.args.reg c.map_take-reply.result x.leaves.grows (makes_none z d old new c.map_take-reply.result made x.leaves.given x.granted (omega (arith, few))) x.guards x.answer)

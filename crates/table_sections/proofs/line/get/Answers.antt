@@ -16,8 +16,8 @@ returns-clause-done g c =
     let new : List Entry = g.M.Machine.front c.map_get-reply.new.m in
     let left : ℕ = g.M.Machine.labels_left c.map_get-reply.new.m in
     let x = c.map_get-reply.ensures in
-    let serial : made_by z d new + left ≡ 4294967295 = subst (λ (w : Sizes × ℕ). made_by w.0 w.1 new + left ≡ 4294967295) (λ i. (x.sizes i, x.domain i)) c.stands-2.ensures.labels in
-    let few = x.written in
-    let made = none_made _ _ _ _ c.stands.ensures.labels serial x.labels in
+    let serial : made_by z d new + left ≡ 4294967295 = subst (λ (w : Sizes × ℕ). made_by w.0 w.1 new + left ≡ 4294967295) (λ i. (x.reads.stays.sizes i, x.reads.stays.domain i)) c.shows_legal-2.ensures.labels in
+    let few = x.reads.written in
+    let made = none_made _ _ _ _ c.shows_legal.ensures.labels serial x.reads.labels in
     subst (λ (a : LineReply). LineDone z d old (line_of.Get c.args.reg) a new) (sym c.said.ensures)
-    (get_done z d old new c.args.reg c.map_get-reply.result x.grows (makes_none z d old new c.map_get-reply.result made x.given x.granted (omega (arith, few))) x.quiet x.answer)
+    (get_done z d old new c.args.reg c.map_get-reply.result x.reads.grows (makes_none z d old new c.map_get-reply.result made x.reads.given x.granted (omega (arith, few))) x.quiet x.answer)

@@ -15,4 +15,4 @@ returns-clause-done g c =
     let new : List Entry = g.M.Machine.front c.perform-key.new.m in
     let s : ℕ = c.args.slot in
     let performed : PerformedBy z d old new (GetKey c.args.dst (slot_ephe s) (slot_key s)) c.perform-key.result = subst (λ (w : ℕ × ℕ). PerformedBy z d old new (GetKey c.args.dst w.0 w.1) c.perform-key.result) (λ i. (c.slot_ephe.ensures.is i, c.slot_key.ensures i)) c.perform-key.ensures.performed in
-    get_slot_done z c.stands.ensures.limits d old new c.args.dst s c.requires.slot c.perform-key.result c.requires.register performed c.said.result c.said.ensures
+    get_slot_done z c.shows_legal.ensures.limits d old new c.args.dst s c.requires.slot c.perform-key.result c.requires.register performed c.said.result c.said.ensures

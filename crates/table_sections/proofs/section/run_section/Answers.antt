@@ -8,6 +8,7 @@ use Rattle.table_text.specs.declared.line.TableLine.{TableLine}
 use Rattle.table_text.specs.declared.machine.reply.LineReply.{LineReply}
 use Rattle.weak_laws.specs.Maps.Steps.{OthersRespect}
 use Rattle.weak_laws.proofs.OfMaps.FrontLemmas.{prefix_same, prefix_trans}
+use Rattle.weak_maps.proofs.FrameLemmas.{stays_same, stays_trans}
 use Rattle.weak_maps.proofs.GuardLemmas.{guards_later, guards_same, guards_then, guards_twice}
 use Rattle.weak_maps.proofs.StayLemmas.{respects_within}
 use Rattle.table_sections.specs.Lines.{IsSharedLine}
@@ -25,9 +26,7 @@ lines-init g c =
     let many = ap (λ (ls : List TableLine). length ls) gives.0 in
     let labels = c.requires.spare.0 in
     let room = c.requires.spare.1 in record {
-      same = refl;
-      own = refl;
-      heap = refl;
+      stays = stays_same;
       grows = prefix_same old;
       fits = subst (AllByRecursion IsSharedLine) (sym gives.0) c.requires.fits;
       len = search rules;
@@ -61,8 +60,8 @@ lines-preserved g c =
     let a : LineReply = c.run_line-reply.result in
     let all : List TableLine = into_iter_items c.into_iter-line-iterator.result in
     let steps = c.in-Some.ensures.steps in
-    let s0 : g.M.Machine.sizes c.lines.m ≡ z = c.lines.invariant.same in
-    let o0 : g.M.Machine.domain c.lines.m ≡ d = c.lines.invariant.own in
+    let s0 : g.M.Machine.sizes c.lines.m ≡ z = c.lines.invariant.stays.sizes in
+    let o0 : g.M.Machine.domain c.lines.m ≡ d = c.lines.invariant.stays.domain in
     let done : LineDone z d now l a new = subst (λ (w : Sizes × ℕ). LineDone w.0 w.1 now l a new) (λ i. (s0 i, o0 i)) c.run_line-reply.ensures.done in
     let later = done.runs.grows in
     let since = c.lines.invariant.grows in
@@ -81,9 +80,7 @@ lines-preserved g c =
     let r1 = c.run_line-reply.ensures.takes.1 in
     let given = c.lines.invariant.given in
     let taken = c.lines.invariant.taken in record {
-      same = c.run_line-reply.ensures.sizes ∙ s0;
-      own = c.run_line-reply.ensures.domain ∙ o0;
-      heap = c.run_line-reply.ensures.heap ∙ c.lines.invariant.heap;
+      stays = stays_trans c.lines.invariant.stays c.run_line-reply.ensures.stays;
       grows = prefix_trans old now new since later;
       fits = (subst (AllByRecursion IsSharedLine) steps.0 c.lines.invariant.fits).1;
       len = omega (arith, m0, m1, many);

@@ -7,15 +7,14 @@ use Rattle.model_core.specs.declared.label.Label.{Label}
 use Rattle.model_core.specs.History.{IsPrefix}
 use Rattle.table_text.specs.declared.machine.reply.LineReply.{LineReply}
 use Rattle.weak_laws.specs.Maps.Steps.{OthersRespect}
+use Rattle.weak_maps.specs.Frames.{Stays}
 use Rattle.table_sections.specs.Lines.{HasRoomFor, IsSharedLine}
 use Rattle.table_sections.specs.Sections.{OnMap, SectionGuards, SectionRuns}
 use Rattle.table_sections.proofs.section.run_section.Given as goal
 
 abbrev pub invariant-lines : goal.invariant-lines
 invariant-lines g l = record {
-  same : g.M.Machine.sizes l.m ≡ g.M.Machine.sizes l.fn.m;
-  own : g.M.Machine.domain l.m ≡ g.M.Machine.domain l.fn.m;
-  heap : g.M.Machine.heap l.m ≡ g.M.Machine.heap l.fn.m;
+  stays : Stays g.M.Machine.sizes g.M.Machine.domain g.M.Machine.heap l.fn.m l.m;
   grows : IsPrefix (g.M.Machine.front l.fn.m) (g.M.Machine.front l.m);
   fits : AllByRecursion IsSharedLine (into_iter_items l.line-iterator);
   len : into_iter_len l.line-iterator ≡ length (into_iter_items l.line-iterator);

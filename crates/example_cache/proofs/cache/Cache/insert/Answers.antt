@@ -13,8 +13,8 @@ invariant_of-self g c =
     let old : CacheView = record { heap = c.self.inside.heap; most = c.self.inside.most } in
     let new : CacheView = record { heap = c.cache_put-reply.new.m; most = c.self.inside.most } in
     let has = c.self.invariant in
-    let spares = alone old new has.root c.session-2.result.now c.session-3.result.now c.cache_put-reply.ensures.sizes c.session-2.ensures c.session-3.ensures c.shows_legal.ensures.alone c.shows_legal-2.ensures.legal in
-    let says = put_says old new c.cache_put-reply.ensures.sizes refl has c.cache_put-reply.ensures.grows (holds old c.args.key) (holds old c.args.item) c.cache_put-reply.result (c.cache_put-reply.ensures.answer has.root has.held has.cache spares) in
+    let spares = alone old new has.root c.session-2.result.now c.session-3.result.now c.cache_put-reply.ensures.puts.stays.sizes c.session-2.ensures c.session-3.ensures c.shows_legal.ensures.alone c.shows_legal-2.ensures.legal in
+    let says = put_says old new c.cache_put-reply.ensures.puts.stays.sizes refl has c.cache_put-reply.ensures.puts.grows (holds old c.args.key) (holds old c.args.item) c.cache_put-reply.result (c.cache_put-reply.ensures.answer has.root has.held has.cache spares) in
     says.2
 
 pub returns-clause-answers : goal.returns-clause-answers
@@ -22,8 +22,8 @@ returns-clause-answers g c =
     let old : CacheView = record { heap = c.self.inside.heap; most = c.self.inside.most } in
     let new : CacheView = record { heap = c.cache_put-reply.new.m; most = c.self.inside.most } in
     let has = c.self.invariant in
-    let spares = alone old new has.root c.session-2.result.now c.session-3.result.now c.cache_put-reply.ensures.sizes c.session-2.ensures c.session-3.ensures c.shows_legal.ensures.alone c.shows_legal-2.ensures.legal in
-    let says = put_says old new c.cache_put-reply.ensures.sizes refl has c.cache_put-reply.ensures.grows (holds old c.args.key) (holds old c.args.item) c.cache_put-reply.result (c.cache_put-reply.ensures.answer has.root has.held has.cache spares) in
+    let spares = alone old new has.root c.session-2.result.now c.session-3.result.now c.cache_put-reply.ensures.puts.stays.sizes c.session-2.ensures c.session-3.ensures c.shows_legal.ensures.alone c.shows_legal-2.ensures.legal in
+    let says = put_says old new c.cache_put-reply.ensures.puts.stays.sizes refl has c.cache_put-reply.ensures.puts.grows (holds old c.args.key) (holds old c.args.item) c.cache_put-reply.result (c.cache_put-reply.ensures.answer has.root has.held has.cache spares) in
     subst (λ (r : Inserted). InsertAnswers c.args.self.now new (label_of (holds c.args.self.now c.args.key)) (holds c.args.self.now c.args.item) r) (sym c.inserted_of.ensures) (subst (λ (v : CacheView). InsertAnswers v new (label_of (holds v c.args.key)) (holds v c.args.item) (inserted_of c.cache_put-reply.result)) c.self.view_is says.0)
 
 pub returns-clause-registers : goal.returns-clause-registers
@@ -31,8 +31,8 @@ returns-clause-registers g c =
     let old : CacheView = record { heap = c.self.inside.heap; most = c.self.inside.most } in
     let new : CacheView = record { heap = c.cache_put-reply.new.m; most = c.self.inside.most } in
     let has = c.self.invariant in
-    let spares = alone old new has.root c.session-2.result.now c.session-3.result.now c.cache_put-reply.ensures.sizes c.session-2.ensures c.session-3.ensures c.shows_legal.ensures.alone c.shows_legal-2.ensures.legal in
-    let says = put_says old new c.cache_put-reply.ensures.sizes refl has c.cache_put-reply.ensures.grows (holds old c.args.key) (holds old c.args.item) c.cache_put-reply.result (c.cache_put-reply.ensures.answer has.root has.held has.cache spares) in
+    let spares = alone old new has.root c.session-2.result.now c.session-3.result.now c.cache_put-reply.ensures.puts.stays.sizes c.session-2.ensures c.session-3.ensures c.shows_legal.ensures.alone c.shows_legal-2.ensures.legal in
+    let says = put_says old new c.cache_put-reply.ensures.puts.stays.sizes refl has c.cache_put-reply.ensures.puts.grows (holds old c.args.key) (holds old c.args.item) c.cache_put-reply.result (c.cache_put-reply.ensures.answer has.root has.held has.cache spares) in
     subst (λ (v : CacheView). KeepsRegisters v new 7) c.self.view_is says.1
 
 pub returns-then-labels_left-lt1-clause-answers : goal.returns-then-labels_left-lt1-clause-answers
@@ -49,7 +49,7 @@ returns-clause-room g c =
     let rooms = ap (λ (s : SessionView). s.room) c.session-else-labels_left-lt1.ensures in
     subst (λ (r : Inserted). RoomAnswers c.args.self.now new r) (sym c.inserted_of.ensures)
     (subst (λ (v : CacheView). RoomAnswers v new (inserted_of c.cache_put-reply.result)) c.self.view_is
-    (room_says (record { heap = c.self.inside.heap; most = c.self.inside.most }) new c.cache_put-reply.result _ _ (omega (arith, left, some, labels)) (omega (arith, fits, room, rooms)) c.cache_put-reply.ensures.counts))
+    (room_says (record { heap = c.self.inside.heap; most = c.self.inside.most }) new c.cache_put-reply.result _ _ (omega (arith, left, some, labels)) (omega (arith, fits, room, rooms)) c.cache_put-reply.ensures.puts.counts))
 
 pub returns-then-labels_left-lt1-clause-room : goal.returns-then-labels_left-lt1-clause-room
 returns-then-labels_left-lt1-clause-room g c =

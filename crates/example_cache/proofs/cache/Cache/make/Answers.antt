@@ -6,14 +6,14 @@ use Rattle.example_cache.proofs.Calls.{made, none_made}
 use Rattle.example_cache.proofs.cache.Cache.make.Goals as goal
 
 pub invariant_of-result : goal.invariant_of-result
-invariant_of-result g c = (made (sizes_in c.new-heap.result.config) (sizes_in c.cache_make.new.m.config) c.new-heap.result.front c.cache_make.new.m.front c.args.most c.cache_make.result c.in-Block.field-0 c.cache_make.ensures.sizes c.in-Block.is c.cache_make.ensures.made).0
+invariant_of-result g c = (made (sizes_in c.new-heap.result.config) (sizes_in c.cache_make.new.m.config) c.new-heap.result.front c.cache_make.new.m.front c.args.most c.cache_make.result c.in-Block.field-0 c.cache_make.ensures.allocates.stays.sizes c.in-Block.is c.cache_make.ensures.made).0
 
 pub returns-in-Block-clause-empty : goal.returns-in-Block-clause-empty
-returns-in-Block-clause-empty g c = (made (sizes_in c.new-heap.result.config) (sizes_in c.cache_make.new.m.config) c.new-heap.result.front c.cache_make.new.m.front c.args.most c.cache_make.result c.in-Block.field-0 c.cache_make.ensures.sizes c.in-Block.is c.cache_make.ensures.made).1
+returns-in-Block-clause-empty g c = (made (sizes_in c.new-heap.result.config) (sizes_in c.cache_make.new.m.config) c.new-heap.result.front c.cache_make.new.m.front c.args.most c.cache_make.result c.in-Block.field-0 c.cache_make.ensures.allocates.stays.sizes c.in-Block.is c.cache_make.ensures.made).1
 
 pub returns-in_default-clause-none : goal.returns-in_default-clause-none
 returns-in_default-clause-none g c = subst (λ (w : SessionView × SessionView). NoCache w.0 w.1) (λ i. (c.new-heap.ensures i, sym c.into_inner-in_default.ensures i))
-    (none_made (sizes_in c.new-heap.result.config) c.new-heap.result c.cache_make.new.m c.args.most c.cache_make.result c.cache_make.ensures.heap c.in_default.not-Block c.cache_make.ensures.made c.cache_make.ensures.refused)
+    (none_made (sizes_in c.new-heap.result.config) c.new-heap.result c.cache_make.new.m c.args.most c.cache_make.result c.cache_make.ensures.allocates.stays.heap c.in_default.not-Block c.cache_make.ensures.made c.cache_make.ensures.allocates.refused)
 
 pub returns-then-labels_left-lt1-clause-none : goal.returns-then-labels_left-lt1-clause-none
 returns-then-labels_left-lt1-clause-none g c =

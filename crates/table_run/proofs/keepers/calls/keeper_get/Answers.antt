@@ -27,7 +27,7 @@ returns-in-Two-clause-refused g c =
     let new : List Entry = g.M.Machine.front c.list_get.new.m.machine in
     let x : HoldsKeeper Two z old c.args.keeper = subst (λ (v : Version). HoldsKeeper v z old c.args.keeper) c.in-Two.is c.requires.keeper in
     let none : full_of c.list_get.result ≡ 0 = get_unrefused z old new x.root c.args.dst (label_of (held_in z old c.args.key)) c.list_get.result (c.list_get.ensures.answer x.root x.held (listed z old x.root x.keeper)) in
-    let given = c.list_get.ensures.given in
+    let given = c.list_get.ensures.reads.given in
     omega (arith, given, none)
 
 pub returns-in-Two-clause-answer : goal.returns-in-Two-clause-answer

@@ -27,7 +27,7 @@ returns-in-Two-clause-refused g c =
     let new : List Entry = g.M.Machine.front c.list_take.new.m.machine in
     let x : HoldsKeeper Two z old c.args.keeper = subst (λ (v : Version). HoldsKeeper v z old c.args.keeper) c.in-Two.is c.requires.keeper in
     let none : full_of c.list_take.result ≡ 0 = take_unrefused z old new x.root (label_of (held_in z old c.args.key)) c.list_take.result (c.list_take.ensures.answer x.root x.held (listed z old x.root x.keeper)) in
-    let given = c.list_take.ensures.given in
+    let given = c.list_take.ensures.leaves.given in
     omega (arith, given, none)
 
 pub returns-in-Two-clause-answer : goal.returns-in-Two-clause-answer

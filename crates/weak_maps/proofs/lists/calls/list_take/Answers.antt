@@ -1,7 +1,4 @@
-use Rattle.std.proofs.Common.{◌≡◌, ◌∙◌, ℕ, List, true, false, sym}
-use Rattle.model_core.specs.declared.entry.Entry.{Entry}
-use Rattle.model_core.specs.declared.state.Sizes.{Sizes}
-use Rattle.model_core.specs.History.{Legal}
+use Rattle.std.proofs.Common.{◌≡◌, ◌∙◌, true, false, sym}
 use Rattle.weak_maps.proofs.OfLists.MachineLemmas.{first_domain, forgets_at, legal_at, take_told, typed_take}
 use Rattle.weak_maps.proofs.FrameLemmas.{leaves_trans}
 use Rattle.weak_maps.proofs.OfLists.FrameLemmas.{leaves_alone}
@@ -15,21 +12,8 @@ returns-clause-leaves g c = leaves_alone c.requires.alone c.shows_legal.ensures.
 
 pub returns-then-is_other_kind-clause-answer : goal.returns-then-is_other_kind-clause-answer
 returns-then-is_other_kind-clause-answer g c =
-    let z : Sizes = g.M.Machine.sizes c.args.m.now in
-    let d : ℕ = g.M.Machine.domain c.args.m.now in
-    let old : List Entry = g.M.Machine.front c.args.m.now in
-    let mid : List Entry = g.M.Machine.front c.map_take-reply.new.m in
-    let first : d ≡ 0 = first_domain z d c.requires.alone c.shows_legal.ensures.inside in
-    let between : Legal z mid = legal_at z _ mid c.map_take-reply.ensures.leaves.stays.sizes c.shows_legal-2.ensures.legal in
-    typed_take z c.shows_legal.ensures.limits c.requires.alone d first old mid c.map_take-reply.ensures.leaves.grows between c.args.map c.args.key c.map_take-reply.result (c.is_other_kind.ensures.0 c.if-is_other_kind.true) c.map_take-reply.ensures.answer
+    typed_take (g.M.Machine.sizes c.args.m.now) c.shows_legal.ensures.limits c.requires.alone _ (first_domain (g.M.Machine.sizes c.args.m.now) _ c.requires.alone c.shows_legal.ensures.inside) _ _ c.map_take-reply.ensures.leaves.grows (legal_at _ _ _ c.map_take-reply.ensures.leaves.stays.sizes c.shows_legal-2.ensures.legal) c.args.map c.args.key c.map_take-reply.result (c.is_other_kind.ensures.0 c.if-is_other_kind.true) c.map_take-reply.ensures.answer
 
 pub returns-clause-answer : goal.returns-clause-answer
 returns-clause-answer g c =
-    let z : Sizes = g.M.Machine.sizes c.args.m.now in
-    let d : ℕ = g.M.Machine.domain c.args.m.now in
-    let old : List Entry = g.M.Machine.front c.args.m.now in
-    let mid : List Entry = g.M.Machine.front c.map_take-reply.new.m in
-    let first : d ≡ 0 = first_domain z d c.requires.alone c.shows_legal.ensures.inside in
-    let between : Legal z mid = legal_at z _ mid c.map_take-reply.ensures.leaves.stays.sizes c.shows_legal-2.ensures.legal in
-    let new : List Entry = g.M.Machine.front c.settle.new.m in
-    take_told z c.shows_legal.ensures.limits c.requires.alone d first old mid c.map_take-reply.ensures.leaves.grows between new (forgets_at z _ d _ mid new c.map_take-reply.ensures.leaves.stays.sizes c.map_take-reply.ensures.leaves.stays.domain c.settle.ensures.forgets) c.args.map c.args.key c.map_take-reply.result (λ e. let clash : true ≡ false = sym (c.is_other_kind.ensures.1 e) ∙ c.if-is_other_kind.false in cc) c.map_take-reply.ensures.answer c.map_take-reply.ensures.follows
+    take_told (g.M.Machine.sizes c.args.m.now) c.shows_legal.ensures.limits c.requires.alone _ (first_domain (g.M.Machine.sizes c.args.m.now) _ c.requires.alone c.shows_legal.ensures.inside) _ _ c.map_take-reply.ensures.leaves.grows (legal_at _ _ _ c.map_take-reply.ensures.leaves.stays.sizes c.shows_legal-2.ensures.legal) _ (forgets_at _ _ _ _ _ _ c.map_take-reply.ensures.leaves.stays.sizes c.map_take-reply.ensures.leaves.stays.domain c.settle.ensures.forgets) c.args.map c.args.key c.map_take-reply.result (λ e. let clash : true ≡ false = sym (c.is_other_kind.ensures.1 e) ∙ c.if-is_other_kind.false in cc) c.map_take-reply.ensures.answer c.map_take-reply.ensures.follows

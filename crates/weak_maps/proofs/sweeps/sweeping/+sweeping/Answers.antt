@@ -23,7 +23,7 @@ sweep_block-fields-preserved g t c =
     let s0 : g.M.Machine.sizes c.fields.m ≡ z = c.fields.invariant.leaves.stays.sizes in
     let o0 : g.M.Machine.domain c.fields.m ≡ d = c.fields.invariant.leaves.stays.domain in
     let narrow = c.fields-test.true in
-    let top = c.width_below-index-end.ensures in record {
+    let top = c.width_of-index-end.ensures in record {
       leaves = leaves_trans c.fields.invariant.leaves c.sweep_field.ensures.leaves;
       swept = block_more z d old now new c.args.block c.args.left c.fields.index c.requires.few (omega (arith, narrow, top)) c.fields.invariant.leaves.grows c.sweep_field.ensures.leaves.grows c.fields.invariant.swept
           (field_at z _ d _ now new c.args.block c.args.left c.fields.index s0 o0 c.sweep_field.ensures.swept);
@@ -34,7 +34,7 @@ sweep_block-returns-clause-swept g t c =
     let z : Sizes = g.M.Machine.sizes c.args.m.now in
     let d : ℕ = g.M.Machine.domain c.args.m.now in
     let below = c.fields.auto.index-end in
-    let top = c.width_below-index-end.ensures in
+    let top = c.width_of-index-end.ensures in
     let past = c.fields-test.false in
     let all : c.fields.index ≡ width_of c.args.left = omega (arith, below, top, past) in
     subst (λ (n : ℕ). SweepsBlock z d (g.M.Machine.front c.args.m.now) (g.M.Machine.front c.fields.m) c.args.block c.args.left n) all c.fields.invariant.swept

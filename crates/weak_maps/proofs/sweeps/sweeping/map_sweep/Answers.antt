@@ -1,7 +1,8 @@
 use Rattle.std.proofs.Common.{ℕ}
 use Rattle.model_core.specs.declared.state.Sizes.{Sizes}
-use Rattle.weak_maps.proofs.OfSweeps.BlockLemmas.{emptied_at, map_swept}
+use Rattle.weak_maps.proofs.OfSweeps.BlockLemmas.{map_swept}
 use Rattle.weak_maps.proofs.FrameLemmas.{leaves_trans}
+use Rattle.weak_maps.proofs.EmptyLemmas.{emptied_at}
 use Rattle.weak_maps.proofs.sweeps.sweeping.map_sweep.Goals as goal
 
 pub returns-clause-leaves : goal.returns-clause-leaves

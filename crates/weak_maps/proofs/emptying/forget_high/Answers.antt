@@ -1,17 +1,17 @@
 use Rattle.std.proofs.Common.{◌≡◌, ◌<◌, ◌≤◌, ℕ, List, subst, arith, rules}
 use Rattle.model_core.specs.declared.entry.Entry.{Entry}
 use Rattle.model_core.specs.declared.state.Sizes.{Sizes}
-use Rattle.weak_maps.specs.Cleans.{ForgetsHigh}
+use Rattle.weak_maps.specs.Cleans.{EmptiedHigh}
 use Rattle.weak_maps.proofs.MachineLemmas.{at_machine}
-use Rattle.weak_maps.proofs.MapCleanLemmas.{forgets_more, forgets_none}
+use Rattle.weak_maps.proofs.EmptyLemmas.{emptied_more, emptied_none}
 use Rattle.weak_maps.proofs.FrameLemmas.{leaves_same, leaves_trans, spends_none}
 use Rattle.weak_maps.proofs.CleanLemmas.{high_spared}
-use Rattle.weak_maps.proofs.cleaning.forget_high.Goals as goal
+use Rattle.weak_maps.proofs.emptying.forget_high.Goals as goal
 
 pub registers-init : goal.registers-init
 registers-init g c = record {
   leaves = leaves_same;
-  forgot = forgets_none (g.M.Machine.sizes c.args.m.now) c.shows_legal.ensures.limits (g.M.Machine.domain c.args.m.now) (g.M.Machine.front c.args.m.now);
+  forgot = emptied_none (g.M.Machine.sizes c.args.m.now) c.shows_legal.ensures.limits (g.M.Machine.domain c.args.m.now) (g.M.Machine.front c.args.m.now);
 }
 
 pub registers-preserved : goal.registers-preserved
@@ -27,10 +27,10 @@ registers-preserved g c =
     let high : 8 ≤ c.registers.dst = search rules in
     let few : c.registers.dst < 16 = search rules in record {
       leaves = leaves_trans c.registers.invariant.leaves (spends_none (omega (arith, high_spared c.registers.dst high)) c.perform-empty.ensures.spends);
-      forgot = forgets_more z c.shows_legal.ensures.limits d old now new c.registers.dst c.perform-empty.result high few c.registers.invariant.leaves.grows c.registers.invariant.forgot p;
+      forgot = emptied_more z c.shows_legal.ensures.limits d old now new c.registers.dst c.perform-empty.result high few c.registers.invariant.forgot p;
     }
 
 pub returns-clause-forgot : goal.returns-clause-forgot
 returns-clause-forgot g c =
     let all : c.registers.dst ≡ 16 = search rules in
-    subst (λ (n : ℕ). ForgetsHigh (g.M.Machine.sizes c.args.m.now) (g.M.Machine.domain c.args.m.now) (g.M.Machine.front c.args.m.now) (g.M.Machine.front c.registers.m) n) all c.registers.invariant.forgot
+    subst (λ (n : ℕ). EmptiedHigh (g.M.Machine.sizes c.args.m.now) (g.M.Machine.domain c.args.m.now) (g.M.Machine.front c.args.m.now) (g.M.Machine.front c.registers.m) n) all c.registers.invariant.forgot
