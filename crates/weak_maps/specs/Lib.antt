@@ -1,5 +1,6 @@
 pub mod Commands
 pub mod Beside
+pub mod Frames
 pub mod Walks
 pub mod Fields
 pub mod Returns
