@@ -1,3 +1,4 @@
+pub mod Places
 mod Growing
 mod Closed
 mod Stopped

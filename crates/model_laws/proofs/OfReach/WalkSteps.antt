@@ -20,7 +20,7 @@ use Rattle.model_core.proofs.Histories.FrontLemmas.{none_cons}
 use Rattle.model_core.proofs.Histories.HistoryLemmas.{state_after-push}
 use Rattle.model_core.proofs.Histories.ShapeAfterLemmas.{shaped-history}
 use Rattle.model_core.proofs.Reach.ReachLemmas.{and_left, and_right, and_both, not_false, or_left, or_right}
-use Rattle.model_laws.specs.Reach.Walks.{is_walk, is_others, is_walk_of, Walked, Walks, state_of}
+use Rattle.model_laws.specs.Reach.Walks.{is_walk, is_others, is_walk_of, Walked, Walks, state_of, WalksOn}
 
 -- who makes an entry by which domain d walks is domain d
 walk_is_own : (d : ℕ) (e : Entry) → IsTrue (is_walk_of d e) → is_entry_of d e ≡ true
@@ -123,6 +123,14 @@ others_walk d (e ∷ h) none calls =
     and_both (is_walk_of d e || is_others d e) (list_all (λ x. is_walk_of d x || is_others d x) h)
     (or_right (is_walk_of d e) (is_others d e) (and_both (is_call e) (not (is_entry_of d e)) (and_left (is_call e) (list_all is_call h) calls) (not_false (is_entry_of d e) parts.0)))
     (others_walk d h parts.1 (and_right (is_call e) (list_all is_call h) calls))
+
+pub walks_on : {M H : Type 0} {of : M → H} {z : M → Sizes} {d : M → ℕ} {front : M → List Entry} {a b c : M} → WalksOn of z d front a b → WalksOn of z d front b c → WalksOn of z d front a c
+walks_on {d = d} {front = front} {a = a} {b = b} {c = c} x y = record {
+  home = y.home ∙ x.home;
+  sizes = y.sizes ∙ x.sizes;
+  number = y.number ∙ x.number;
+  walks = walks_trans (d a) (front a) (front b) (front c) x.walks (walks_at (d a) (d b) (front b) (front c) x.number y.walks);
+}
 
 -- a call that makes such a command
 pub walks_once : (z : Sizes) (d : ℕ) (old new : List Entry) (c : model.Command) (a : Applied) → IsTrue (is_walk c) → is_full_major (Command d c false) ≡ false → Answers z d old new (Command d c false) a → Walks d old new

@@ -42,6 +42,13 @@ pub record Walks (d : ℕ) (old new : List Entry) : Type 0 where
   pub appends : new ≡ old ++ rest
   pub each : IsTrue (list_all (λ e. is_walk_of d e || is_others d e) rest)
 
+-- a search walks on: it stays in the same domain of the same heap, with the same numbers
+pub record WalksOn {M H : Type 0} (of : M → H) (z : M → Sizes) (d : M → ℕ) (front : M → List Entry) (old new : M) : Type 0 where
+  pub home : of new ≡ of old
+  pub sizes : z new ≡ z old
+  pub number : d new ≡ d old
+  pub walks : Walks (d old) (front old) (front new)
+
 -- the front has grown by such commands of domain d alone: no other domain has made an entry, and no collection
 pub record Walked (d : ℕ) (old new : List Entry) : Type 0 where
   pub rest : List Entry

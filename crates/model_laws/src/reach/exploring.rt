@@ -4,7 +4,7 @@ ghost use Rattle.model_core.specs.declared.graph.Value.TheVariants.{Block as Blo
 ghost use Rattle.model_core.specs.Domains.{register as held};
 ghost use Rattle.model_core.specs.declared.label.Label as labels;
 ghost use Rattle.model_laws.specs.Reach.Exploring.{Explored, FindsAlone, Extends, IsOnce, IsOrdered, Looked, Notes, Visited, Went, graph_of, roots_of};
-ghost use Rattle.model_laws.specs.Reach.Walks.{Copied, Loaded, Still, Walked, Walks, is_hand, state_of};
+ghost use Rattle.model_laws.specs.Reach.Walks.{Copied, Loaded, Still, Walked, WalksOn, is_hand, state_of};
 
 use crate::reach::seen::{Origin, Seen, Way, add, way_to};
 use crate::reach::walker::Walker;
@@ -32,13 +32,10 @@ impl From<AllocError> for Stop {
 
 // Brings the block in a register into register 14.
 fn take_up<M: Walker>(m: &mut M, src: u8) -> Result<(), Stop>
-    ensures home { M.home m.new ≡ M.home m.old }
-    ensures sizes { M.sizes m.new ≡ M.sizes m.old }
-    ensures number { M.number m.new ≡ M.number m.old }
-    ensures walks { Walks (M.number m.old) (M.front m.old) (M.front m.new) }
+    ensures on { WalksOn M.home M.sizes M.number M.front m.old m.new }
     ensures copied { IfOk result (λ _. Walked (M.number m.old) (M.front m.old) (M.front m.new) → Copied (M.sizes m.old) (M.number m.old) (M.front m.old) (M.front m.new) src) }
 {
-    m.stands();
+    m.shows_limits();
     match m.perform(Command::Copy { dst: 14, src }) {
         Some(_) => Ok(()),
         None => Err(Stop::PutOff),
@@ -48,13 +45,10 @@ fn take_up<M: Walker>(m: &mut M, src: u8) -> Result<(), Stop>
 // Loads a field of the block in register 14 into one of the two registers.
 fn load<M: Walker>(m: &mut M, dst: u8, index: u16) -> Result<Reply, Stop>
     requires hand { IsTrue (is_hand dst) }
-    ensures home { M.home m.new ≡ M.home m.old }
-    ensures sizes { M.sizes m.new ≡ M.sizes m.old }
-    ensures number { M.number m.new ≡ M.number m.old }
-    ensures walks { Walks (M.number m.old) (M.front m.old) (M.front m.new) }
+    ensures on { WalksOn M.home M.sizes M.number M.front m.old m.new }
     ensures loaded { IfOk result (λ r. Walked (M.number m.old) (M.front m.old) (M.front m.new) → Loaded (M.sizes m.old) (M.number m.old) (M.front m.old) (M.front m.new) dst index r) }
 {
-    m.stands();
+    m.shows_limits();
     let load = Command::Load {
         dst,
         src: 14,
@@ -78,10 +72,7 @@ fn note(seen: &mut Vec<Seen>, reply: Reply, origin: Origin) -> Result<(), Stop>
 
 // Goes along a way: register 14 then holds the block to which it leads.
 fn go<M: Walker>(m: &mut M, way: &Way) -> Result<(), Stop>
-    ensures home { M.home m.new ≡ M.home m.old }
-    ensures sizes { M.sizes m.new ≡ M.sizes m.old }
-    ensures number { M.number m.new ≡ M.number m.old }
-    ensures walks { Walks (M.number m.old) (M.front m.old) (M.front m.new) }
+    ensures on { WalksOn M.home M.sizes M.number M.front m.old m.new }
     ensures went { IfOk result (λ _. Walked (M.number m.old) (M.front m.old) (M.front m.new) → Went (M.sizes m.old) (M.number m.old) (M.front m.old) (M.front m.new) way.now) }
 {
     take_up(m, way.register)?;
@@ -97,10 +88,7 @@ fn visit<M: Walker>(m: &mut M, seen: &mut Vec<Seen>, at: usize) -> Result<bool, 
     requires inside { at < length seen.old.items }
     requires ordered { IsOrdered seen.old.items }
     requires once { IsOnce seen.old.items }
-    ensures home { M.home m.new ≡ M.home m.old }
-    ensures sizes { M.sizes m.new ≡ M.sizes m.old }
-    ensures number { M.number m.new ≡ M.number m.old }
-    ensures walks { Walks (M.number m.old) (M.front m.old) (M.front m.new) }
+    ensures on { WalksOn M.home M.sizes M.number M.front m.old m.new }
     ensures ordered { IfOk result (λ _. IsOrdered seen.new.items) }
     ensures once { IfOk result (λ _. IsOnce seen.new.items) }
     ensures goes_on { IfOk result (λ _. Extends seen.old.items seen.new.items) }
@@ -157,10 +145,7 @@ fn look<M: Walker>(
     requires inside { at < length seen.old.items }
     requires ordered { IsOrdered seen.old.items }
     requires once { IsOnce seen.old.items }
-    ensures home { M.home m.new ≡ M.home m.old }
-    ensures sizes { M.sizes m.new ≡ M.sizes m.old }
-    ensures number { M.number m.new ≡ M.number m.old }
-    ensures walks { Walks (M.number m.old) (M.front m.old) (M.front m.new) }
+    ensures on { WalksOn M.home M.sizes M.number M.front m.old m.new }
     ensures ordered { IfOk result (λ _. IsOrdered seen.new.items) }
     ensures once { IfOk result (λ _. IsOnce seen.new.items) }
     ensures goes_on { IfOk result (λ _. Extends seen.old.items seen.new.items) }
@@ -189,10 +174,7 @@ pub fn explore<M: Walker>(
     stop: Option<Label>,
     most: u32,
 ) -> Result<Blocks, Stop>
-    ensures home { M.home m.new ≡ M.home m.old }
-    ensures sizes { M.sizes m.new ≡ M.sizes m.old }
-    ensures number { M.number m.new ≡ M.number m.old }
-    ensures walks { Walks (M.number m.old) (M.front m.old) (M.front m.new) }
+    ensures on { WalksOn M.home M.sizes M.number M.front m.old m.new }
     ensures ordered { IfOk result (λ x. IsOrdered x.seen.items) }
     ensures once { IfOk result (λ x. IsOnce x.seen.items) }
     ensures explored { IfOk result (FindsAlone (M.sizes m.old) (M.number m.old) (M.front m.old) (M.front m.new) stop) }

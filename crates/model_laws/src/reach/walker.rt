@@ -30,7 +30,7 @@ pub trait Walker {
     ghost front: { Self → List Entry };
 
     /// Nothing changes. The numbers of the heap are within their limits.
-    fn stands(&self)
+    fn shows_limits(&self)
         ensures limits { IsWithinLimits (sizes self.now) };
 
     /// The reply that shows what a register holds. No entry is made.

@@ -8,7 +8,7 @@ use Rattle.crossbeam_queue.proofs.Lists.{at_snoc}
 use Rattle.run_seats.specs.declared.beds.rule.Knows.{Knows}
 use Rattle.run_seats.specs.declared.beds.rule.Rested.{Rested}
 use Rattle.run_seats.specs.Beds.Bedding.{AllFind, Bedded, Finds, HasTaken, Meets, first_bed, holding, next_bed, one_more, putting, taking, without}
-use Rattle.run_seats.proofs.OfBeds.Places.{all_set, at_more, only}
+use Rattle.run_seats.proofs.Places.{all_set, at_more, only}
 
 -- a bed that knows what another did, but for what it has taken out
 record Like {T : Type 0} (o u : Knows T) : Type 0 where

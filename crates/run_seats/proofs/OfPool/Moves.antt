@@ -9,7 +9,7 @@ use Rattle.run_seats.specs.declared.pool.rule.Knows.{Knows}
 use Rattle.run_seats.specs.declared.pool.rule.Rested.{Rested}
 use Rattle.run_seats.specs.Pool.Pooling.{Akin, AllFind, Finds, Meets, Pooled, first_keeper, holding, next_keeper, one_more, putting, taking, without}
 use Rattle.run_seats.specs.Pool.Keeping.{HasTaken, KeepsOf}
-use Rattle.run_seats.proofs.OfPool.Places.{all_set, at_more, only}
+use Rattle.run_seats.proofs.Places.{all_set, at_more, only}
 
 -- a keeper that knows what another did, but for what it has taken out
 record Like {T : Type 0} (o u : Knows T) : Type 0 where

@@ -23,7 +23,7 @@ impl Walker for SharedRun {
 
     ghost front = { λ s. s.run.token.view.seen.front };
 
-    fn stands(&self) {
+    fn shows_limits(&self) {
         let _config = self.heap.config();
     }
 

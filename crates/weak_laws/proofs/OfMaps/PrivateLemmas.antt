@@ -42,7 +42,7 @@ use Rattle.weak_laws.specs.Maps.MapLaws.{PrivateStays, PrivateStandsNowhere}
 use Rattle.weak_laws.proofs.OfMaps.WalkLemmas.{at_step, at_stop}
 use Rattle.weak_laws.proofs.OfMaps.FieldLemmas.{plain_is}
 use Rattle.weak_laws.proofs.OfMaps.FrontLemmas.{prefix_same, prefix_more, walk_along, other_between}
-use Rattle.weak_laws.proofs.OfMaps.ReachLemmas.{field_named}
+use Rattle.weak_laws.proofs.OfTables.CollectorLemmas.{field_named}
 use Rattle.weak_laws.proofs.OfMaps.RespectLemmas.{collector_spares, allowed_at, outside_wider, state_push, graph_push}
 use Rattle.model_core.proofs.Commands.OutcomeLemmas.{bounds_each, ephe_each, tells_each}
 

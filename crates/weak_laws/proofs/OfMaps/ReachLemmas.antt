@@ -1,5 +1,5 @@
 -- Reach and maps: after a complete collection only keys that are reached are bound, and no binding keeps its key alive.
-use Rattle.std.proofs.Common.{◌≡◌, ◌≢◌, ℕ, zero, suc, Bool, true, false, cond, ◌&&◌, IsTrue, List, [], ◌∷◌, ◌++◌, get_or, filter_map, option_to_list, Option, Some, None, refl, ap, sym, ◌∙◌, subst}
+use Rattle.std.proofs.Common.{◌≡◌, ◌≢◌, ℕ, Bool, true, false, cond, ◌&&◌, IsTrue, List, [], ◌∷◌, ◌++◌, get_or, filter_map, option_to_list, Option, Some, None, refl, ap, sym, ◌∙◌, subst}
 use Rattle.std.specs.Option.{option_map_or}
 use Rattle.model_core.specs.declared.label.Label.{Label}
 use Rattle.model_core.specs.declared.entry.Entry.TheVariants.{Collected}
@@ -13,27 +13,18 @@ use Rattle.model_core.specs.Domains.{opening, queues, roots, reach}
 use Rattle.model_core.specs.Entries.{CollectedAllowed, keys_are_live, has_live_keys, next}
 use Rattle.model_core.specs.Reach.{edges_of, edges_at, reachable, IsClosedGraph, IsClosedUnder, IsLeastClosed}
 use Rattle.model_core.proofs.Commands.FrameLemmas.{label_cases}
-use Rattle.model_core.proofs.Graphs.GraphLemmas.{same_label-true, same_label_refl, node_at-with_node_same, node_at-with_node_other, labels-with_node}
+use Rattle.model_core.proofs.Graphs.GraphLemmas.{same_label-true, node_at-with_node_same, node_at-with_node_other, labels-with_node}
 use Rattle.model_core.proofs.Collections.CollectedLemmas.{reach_fresh}
 use Rattle.model_core.proofs.Collections.CollectionLemmas.{all_has}
 use Rattle.model_core.proofs.Histories.HistoryLemmas.{state_after-push}
 use Rattle.model_core.proofs.Histories.WellFormedLemmas.{reach_after, wf_after, wf_opening, closed_graph, queues_named}
-use Rattle.model_core.proofs.Reach.ReachLemmas.{or_left, or_right, and_left, reach_law, reachable_least}
+use Rattle.model_core.proofs.Reach.ReachLemmas.{and_left, reach_law, reachable_least}
 use Rattle.weak_laws.specs.Tables.Thinning.{state_of}
+use Rattle.weak_laws.proofs.OfTables.CollectorLemmas.{field_named}
 use Rattle.weak_laws.proofs.OfTables.StepLemmas.{legal_parts}
 use Rattle.weak_laws.specs.Maps.Tries.{inside, fields_of, ends, bound_in, bound_by, way_to}
 use Rattle.weak_laws.specs.Maps.MapLaws.{CollectedKeysAreReached, DatumKeepsNoKey}
 use Rattle.weak_laws.proofs.OfMaps.WalkLemmas.{ends_step, ends_stop}
-
--- a field that holds a label
-pub field_named : (fields : List Value) (i : ℕ) (m : Label) → get_or fields i Nothing ≡ Block m → IsTrue (has_label (filter_map label_of fields) m)
-field_named [] i m is = cc
-field_named (Int z ∷ fields) zero m is = cc
-field_named (Nothing ∷ fields) zero m is = cc
-field_named (Block l ∷ fields) zero m is = let same : l ≡ m = cc in or_left (same_label l m) _ (subst (λ x. IsTrue (same_label l x)) same (same_label_refl l))
-field_named (Int z ∷ fields) (suc i) m is = field_named fields i m is
-field_named (Nothing ∷ fields) (suc i) m is = field_named fields i m is
-field_named (Block l ∷ fields) (suc i) m is = or_right (same_label l m) _ (field_named fields i m is)
 
 -- what a set that is closed holds of a map that it holds
 module _ (g : Graph) (alive : Label → Bool) (closed : IsClosedUnder g alive) where

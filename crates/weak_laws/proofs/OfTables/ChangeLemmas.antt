@@ -13,6 +13,15 @@ use Rattle.weak_laws.specs.Tables.Structures.{Cell, is_weak, binding_of, chain_b
 use Rattle.weak_laws.specs.Tables.Thinning.{EmptiedBy, LosesSome, ThinnedBy, Thin, Changes}
 use Rattle.weak_laws.proofs.OfTables.BindingLemmas.{thinned_same, thinned_append, thinned_bucket, thinned_flat}
 
+-- what an ephemeron of one key has
+pub weak_parts : (o : Option Node) → IsTrue (is_weak o) → (key : Option Label) × (datum : Value) × (o ≡ Some (Ephe (key ∷ []) datum))
+weak_parts None w = cc
+weak_parts (Some (Plain tag fields)) w = cc
+weak_parts (Some (Raw tag fields)) w = cc
+weak_parts (Some (Ephe [] datum)) w = cc
+weak_parts (Some (Ephe (key ∷ []) datum)) w = (key, datum, refl)
+weak_parts (Some (Ephe (key ∷ other ∷ keys) datum)) w = cc
+
 -- a label that a list lacks is neither its first nor in the rest
 pub not_first : (x : Label) (ls : List Label) (l : Label) → has_label (x ∷ ls) l ≡ false → (same_label x l ≡ false) × (has_label ls l ≡ false)
 not_first x ls l none = go (same_label x l) (has_label ls l) none
@@ -94,14 +103,6 @@ module _ (P : Label → Type 0) where
       → node_at g l ≡ Some (Plain tag fields) → node_at h l ≡ Some (Plain tag fields)
   changes_plain own g h l tag fields changes other at = changes l (Plain tag fields) at other
 
-  weak_of : (o : Option Node) → IsTrue (is_weak o) → (key : Option Label) × (datum : Value) × (o ≡ Some (Ephe (key ∷ []) datum))
-  weak_of None w = cc
-  weak_of (Some (Plain tag fields)) w = cc
-  weak_of (Some (Raw tag fields)) w = cc
-  weak_of (Some (Ephe [] datum)) w = cc
-  weak_of (Some (Ephe (key ∷ []) datum)) w = (key, datum, refl)
-  weak_of (Some (Ephe (key ∷ other ∷ keys) datum)) w = cc
-
   -- what a thinned ephemeron of one key is and binds
   thin_weak : (key : Option Label) (datum : Value) (left : Option Node) → Thin P (Ephe (key ∷ []) datum) left
       → IsTrue (is_weak left) × ThinnedBy P (binding_of (Some (Ephe (key ∷ []) datum))) (binding_of left)
@@ -117,7 +118,7 @@ module _ (P : Label → Type 0) where
     -- an ephemeron of one key
     pub weak_kept : (e : Label) → has_label own e ≡ false → IsTrue (is_weak (node_at g e)) → IsTrue (is_weak (node_at h e)) × ThinnedBy P (binding_of (node_at g e)) (binding_of (node_at h e))
     weak_kept e other w =
-        let f = weak_of (node_at g e) w in
+        let f = weak_parts (node_at g e) w in
         let left = thin_weak f.0 f.1 (node_at h e) (changes e (Ephe (f.0 ∷ []) f.1) f.2 other) in
         (left.0, subst (λ o. ThinnedBy P (binding_of o) (binding_of (node_at h e))) (sym f.2) left.1)
 

@@ -1,5 +1,5 @@
 -- What the collector's entries take: keys outside reach, which no register holds, with their data.
-use Rattle.std.proofs.Common.{◌≡◌, inl, inr, ℕ, zero, suc, Bool, true, false, not, IsTrue, List, [], ◌∷◌, ◌++◌, length, get_or, set, slice_get, flat_map, filter_map, Option, Some, None, refl, ap, sym, ◌∙◌, subst, arith, append_assoc, append-nil}
+use Rattle.std.proofs.Common.{◌≡◌, inl, inr, ℕ, zero, suc, Bool, true, false, not, IsTrue, List, [], ◌∷◌, ◌++◌, get_or, set, slice_get, flat_map, filter_map, Option, Some, None, refl, ap, sym, ◌∙◌, subst, append_assoc, append-nil}
 use Rattle.std.specs.List.{cons_option}
 use Rattle.model_core.specs.declared.label.Label.{Label}
 use Rattle.model_core.specs.declared.entry.Entry.{Entry}
@@ -21,6 +21,19 @@ use Rattle.model_core.proofs.Histories.HistoryLemmas.{state_after-push}
 use Rattle.model_core.proofs.Reach.ReachLemmas.{or_left, or_right, and_left, and_right, is_false, has-append_left, has-append_right, reachable_more, reachable_roots}
 use Rattle.weak_laws.specs.Tables.Thinning.{is_collector, AllCollector, state_of, IsOutside, IsTakenBy, IsUnheld, Went, EmptiedBy, LosesSome, Thin, Changes}
 use Rattle.weak_laws.proofs.OfTables.ChangeLemmas.{emptied_same, loses_emptied, thin_is, changes_same, changes_twice, changes_more}
+
+-- what is so of each kind of entry of the collector
+pub collector_cases : (P : Entry → Type 0) → P Cut → ((d : ℕ) (places : List ℕ) → P (Queue d places)) → P Seal → ((l : Label) (keys : List ℕ) → P (Wipe l keys)) → ((d place : ℕ) → P (LastOf d place)) → P Collected → P Done → (e : Entry) → IsTrue (is_collector e) → P e
+collector_cases P cut queue seal wipe last collected done (CommandOf d c full) mine = cc
+collector_cases P cut queue seal wipe last collected done (End d) mine = cc
+collector_cases P cut queue seal wipe last collected done Cut mine = cut
+collector_cases P cut queue seal wipe last collected done (Queue d places) mine = queue d places
+collector_cases P cut queue seal wipe last collected done Seal mine = seal
+collector_cases P cut queue seal wipe last collected done (Wipe l keys) mine = wipe l keys
+collector_cases P cut queue seal wipe last collected done (LastOf d place) mine = last d place
+collector_cases P cut queue seal wipe last collected done Collected mine = collected
+collector_cases P cut queue seal wipe last collected done Done mine = done
+collector_cases P cut queue seal wipe last collected done (Ran d) mine = cc
 
 -- what is gone is outside reach
 gone_outside : (s : State) (k : Label) → IsTrue (is_gone s (queues s) k) → IsOutside s k
@@ -124,19 +137,20 @@ collector_thins s (Ran d) mine allowed = cc
 pub collector_outside : (s : State) (e : Entry) → IsTrue (is_collector e) → Allowed s e → Changes (IsOutside s) [] s.graph (next s e).graph
 collector_outside s e mine allowed = changes_more (IsTakenBy s e) (IsOutside s) [] [] s.graph (next s e).graph (λ k t. t.outside) (λ l h. h) (collector_thins s e mine allowed)
 
--- what a register holds is a root
-held_value : (rs : List Value) (r : ℕ) (k : Label) → get_or rs r Nothing ≡ Block k → IsTrue (has_label (filter_map label_of rs) k)
-held_value [] r k held = cc
-held_value (Int z ∷ rs) zero k held = cc
-held_value (Nothing ∷ rs) zero k held = cc
-held_value (Block l ∷ rs) zero k held = let is : l ≡ k = cc in or_left (same_label l k) _ (subst (λ x. IsTrue (same_label l x)) is (same_label_refl l))
-held_value (Int z ∷ rs) (suc r) k held = held_value rs r k held
-held_value (Nothing ∷ rs) (suc r) k held = held_value rs r k held
-held_value (Block l ∷ rs) (suc r) k held = or_right (same_label l k) _ (held_value rs r k held)
+-- what a register or a field holds is named
+pub field_named : (fields : List Value) (i : ℕ) (m : Label) → get_or fields i Nothing ≡ Block m → IsTrue (has_label (filter_map label_of fields) m)
+field_named [] i m is = cc
+field_named (Int z ∷ fields) zero m is = cc
+field_named (Nothing ∷ fields) zero m is = cc
+field_named (Block l ∷ fields) zero m is = let same : l ≡ m = cc in or_left (same_label l m) _ (subst (λ x. IsTrue (same_label l x)) same (same_label_refl l))
+field_named (Int z ∷ fields) (suc i) m is = field_named fields i m is
+field_named (Nothing ∷ fields) (suc i) m is = field_named fields i m is
+field_named (Block l ∷ fields) (suc i) m is = or_right (same_label l m) _ (field_named fields i m is)
 
+-- what a register holds is a root
 held_in : (xs : List DomainState) (d r : ℕ) (k : Label) → get_or (get_or xs d no_domain).registers r Nothing ≡ Block k → IsTrue (has_label (flat_map (λ x. filter_map label_of x.registers) xs) k)
 held_in [] d r k held = cc
-held_in (x ∷ xs) zero r k held = has-append_left (filter_map label_of x.registers) _ k (held_value x.registers r k held)
+held_in (x ∷ xs) zero r k held = has-append_left (filter_map label_of x.registers) _ k (field_named x.registers r k held)
 held_in (x ∷ xs) (suc d) r k held = has-append_right (filter_map label_of x.registers) _ k (held_in xs d r k held)
 
 -- so it is reached
@@ -148,16 +162,7 @@ outside_unheld s k outside d r held = let there = held_reached s d r k held in l
 
 -- an entry of the collector is no entry of a domain
 pub collector_other : (e : Entry) (d : ℕ) → IsTrue (is_collector e) → is_entry_of d e ≡ false
-collector_other (CommandOf k c full) d mine = cc
-collector_other (End k) d mine = cc
-collector_other Cut d mine = refl
-collector_other (Queue k places) d mine = refl
-collector_other Seal d mine = refl
-collector_other (Wipe l keys) d mine = refl
-collector_other (LastOf k place) d mine = refl
-collector_other Collected d mine = refl
-collector_other Done d mine = refl
-collector_other (Ran k) d mine = cc
+collector_other e d mine = collector_cases (λ (e : Entry). is_entry_of d e ≡ false) refl (λ k places. refl) refl (λ l keys. refl) (λ k place. refl) refl refl e mine
 
 unheld_before : (s : State) (e : Entry) (k : Label) → IsTrue (is_collector e) → IsUnheld (next s e) k → IsUnheld s k
 unheld_before s e k mine unheld d r held = unheld d r (ap (λ (rs : List Value). get_or rs r Nothing) (keeps_next s e d (collector_other e d mine)).registers ∙ held)

@@ -35,7 +35,8 @@ SameBut l g h = (x : Label) → (x ≡ l → ⊥) → node_at h x ≡ node_at g 
 differs : (x l : Label) → same_label x l ≡ false → x ≡ l → ⊥
 differs x l e same = let yes : same_label x l ≡ true = subst (λ (k : Label). same_label x k ≡ true) same (same_label_refl x) in let clash : true ≡ false = sym yes ∙ e in cc
 
-one_binding : (o : Option Node) → length (binding_of o) ≤ 1
+-- an ephemeron of one key binds one key at most
+pub one_binding : (o : Option Node) → length (binding_of o) ≤ 1
 one_binding None = omega arith
 one_binding (Some (Plain tag fields)) = omega arith
 one_binding (Some (Raw tag fields)) = omega arith

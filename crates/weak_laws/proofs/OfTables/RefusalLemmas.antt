@@ -1,10 +1,10 @@
 -- A command that is answered `full` is an entry that says so, and no other entry is.
-use Rattle.std.proofs.Common.{◌≡◌, ℕ, ◌+◌, Bool, true, false, cond, IsTrue, is_some, List, [], ◌∷◌, ◌++◌, slice_get, Option, Some, None, refl, ap, sym, subst, ◌∙◌, arith}
+use Rattle.std.proofs.Common.{◌≡◌, ℕ, ◌+◌, Bool, true, false, cond, is_some, List, [], ◌∷◌, ◌++◌, slice_get, Option, Some, None, refl, ap, sym, subst, ◌∙◌, arith}
 use Rattle.model_core.specs.declared.label.Label.{Label}
 use Rattle.model_core.specs.declared.command.Command as declared_command
 use Rattle.model_core.specs.declared.command.Command.TheVariants.{PutInt, Copy, Forget, Alloc, AllocMaj, Load, Store, Raw as NewRaw, Cas, Ephe as NewEphe, SetKey, UnsetKey, GetKey, CheckKey, SetData, UnsetData, GetData, CheckData, Finalise, FinaliseLast, Poll, Minor, Major, FullMajor, Spawn, Argument, PutResult, Join}
 use Rattle.model_core.specs.declared.entry.Entry.{Entry}
-use Rattle.model_core.specs.declared.entry.Entry.TheVariants.{Command, End, Cut, Queue, Seal, Wipe, Last as LastOf, Collected, Done as DoneOf, Ran}
+use Rattle.model_core.specs.declared.entry.Entry.TheVariants.{Command}
 use Rattle.model_core.specs.declared.reply.Reply.{Reply}
 use Rattle.model_core.specs.declared.reply.Reply.TheVariants as reply
 use Rattle.model_core.specs.declared.reply.Applied.TheVariants.{Replied}
@@ -21,6 +21,7 @@ use Rattle.model_core.proofs.Reach.ReachLemmas.{and_left, and_right}
 use Rattle.model_core.specs.Counts.Counts.{blocks_of, labels_given, labels_of}
 use Rattle.weak_laws.specs.Tables.Thinning.{is_collector, AllCollector, state_of}
 use Rattle.weak_laws.specs.Tables.Performing.{Performed, refused, refusals, full_of, refused_by}
+use Rattle.weak_laws.proofs.OfTables.CollectorLemmas.{collector_cases}
 use Rattle.weak_laws.proofs.OfTables.StepLemmas.{not_full}
 
 -- what a command answers of itself is never `full`
@@ -143,21 +144,9 @@ refusals-append (e ∷ h) k = let rest = refusals-append h k in omega (arith, re
 collector_refuses_none : (h : List Entry) → AllCollector h → refusals h ≡ 0
 collector_refuses_none [] mine = refl
 collector_refuses_none (e ∷ h) mine =
-    let here = one e (and_left (is_collector e) _ mine) in
+    let here : refused e ≡ 0 = collector_cases (λ (e : Entry). refused e ≡ 0) refl (λ d places. refl) refl (λ l keys. refl) (λ d place. refl) refl refl e (and_left (is_collector e) _ mine) in
     let rest = collector_refuses_none h (and_right (is_collector e) _ mine) in
     omega (arith, here, rest)
-  where
-    one : (e : Entry) → IsTrue (is_collector e) → refused e ≡ 0
-    one (Command d c full) is = cc
-    one (End d) is = cc
-    one (Ran d) is = cc
-    one Cut is = refl
-    one (Queue d places) is = refl
-    one Seal is = refl
-    one (Wipe l keys) is = refl
-    one (LastOf d place) is = refl
-    one Collected is = refl
-    one DoneOf is = refl
 
 -- one command more is refused exactly where the reply is `full`
 pub performed_refusals : (z : Sizes) (old new : List Entry) (c : declared_command.Command) (r : Reply) → Performed z old new c r → refusals new ≡ refusals old + full_of r

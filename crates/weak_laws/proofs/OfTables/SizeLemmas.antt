@@ -24,6 +24,7 @@ use Rattle.model_core.proofs.Reach.ReachLemmas.{or_left, or_right, true_or_false
 use Rattle.model_core.proofs.Reach.LabelListLemmas.{length_within}
 use Rattle.weak_laws.specs.Tables.Structures.{Cell, binding_of, chain_bindings, bindings, cell_labels, table_labels, IsTable}
 use Rattle.weak_laws.specs.Tables.Thinning.{state_of}
+use Rattle.weak_laws.proofs.OfTables.CountLemmas.{one_binding}
 use Rattle.weak_laws.proofs.OfTables.GrowLemmas.{table_there}
 
 -- a heap of one domain has at most as many blocks as this
@@ -123,7 +124,7 @@ blocks_counted z h one legal = (counted_after (opening z) h legal opened).blocks
     opened : IsCounted (opening z)
     opened = record { domains = ap (λ (n : ℕ). length (opening (record z { domains = n })).domains) one; blocks = omega arith }
 
-label_there : (g : Graph) (l : Label) (n : Node) → node_at g l ≡ Some n → IsTrue (has_label (labels g) l)
+pub label_there : (g : Graph) (l : Label) (n : Node) → node_at g l ≡ Some n → IsTrue (has_label (labels g) l)
 label_there [] l n at = cc
 label_there (e ∷ g) l n at = ⊎_elim
     (λ (here : IsTrue (same_label e.0 l)). or_left (same_label e.0 l) _ here)
@@ -131,15 +132,6 @@ label_there (e ∷ g) l n at = ⊎_elim
     (true_or_false (same_label e.0 l))
 
 -- each cell binds one key at most, and has two blocks
-one_binding : (o : Option Node) → length (binding_of o) ≤ 1
-one_binding None = omega arith
-one_binding (Some (Plain tag fields)) = omega arith
-one_binding (Some (Raw tag fields)) = omega arith
-one_binding (Some (Ephe [] datum)) = omega arith
-one_binding (Some (Ephe (None ∷ []) datum)) = omega arith
-one_binding (Some (Ephe (Some k ∷ []) datum)) = omega arith
-one_binding (Some (Ephe (key ∷ other ∷ keys) datum)) = omega arith
-
 chain_few : (g : Graph) (cells : List Cell) → length (chain_bindings g cells) ≤ length (cell_labels cells)
 chain_few g [] = omega arith
 chain_few g (c ∷ cells) =

@@ -1,5 +1,5 @@
 -- A walk through a bucket, command by command.
-use Rattle.std.proofs.Common.{◌≡◌, ℕ, ◌≤◌, IsTrue, List, [], ◌∷◌, ◌++◌, length, get_or, set, inl, inr, Option, Some, None, refl, ap, sym, ◌∙◌, subst, arith, append_assoc}
+use Rattle.std.proofs.Common.{◌≡◌, ℕ, ◌≤◌, List, [], ◌∷◌, ◌++◌, length, get_or, set, inl, inr, Option, Some, None, refl, ap, sym, ◌∙◌, subst, arith, append_assoc}
 use Rattle.model_core.specs.declared.label.Label.{Label}
 use Rattle.model_core.specs.declared.command.Command.{Command}
 use Rattle.model_core.specs.declared.command.Command.TheVariants.{Load, CheckKey}
@@ -8,19 +8,18 @@ use Rattle.model_core.specs.declared.reply.Reply.{Reply}
 use Rattle.model_core.specs.declared.reply.Reply.TheVariants.{Block as BlockReply}
 use Rattle.model_core.specs.declared.graph.Value.{Value}
 use Rattle.model_core.specs.declared.graph.Value.TheVariants.{Block, Nothing}
-use Rattle.model_core.specs.declared.graph.Node.{Node}
-use Rattle.model_core.specs.declared.graph.Node.TheVariants.{Plain, Raw, Ephe}
+use Rattle.model_core.specs.declared.graph.Node.TheVariants.{Plain, Ephe}
 use Rattle.model_core.specs.declared.state.Sizes.{Sizes}
 use Rattle.model_core.specs.declared.state.State.{State}
 use Rattle.model_core.specs.Graph.{node_at}
 use Rattle.model_core.specs.Domains.{IsWithinLimits}
 use Rattle.model_core.specs.Commands.{shown}
 use Rattle.model_core.specs.Laws.{written_by}
-use Rattle.weak_laws.specs.Tables.Structures.{Binding, Cell, is_weak, head_of, IsCell, Links, IsTable}
+use Rattle.weak_laws.specs.Tables.Structures.{Binding, Cell, head_of, IsCell, Links, IsTable}
 use Rattle.weak_laws.specs.Tables.Thinning.{ThinnedBy, Went}
 use Rattle.weak_laws.specs.Tables.Performing.{Performed, After, registers_of}
 use Rattle.weak_laws.specs.Tables.Stages.{Walking, Declines, graph_of, held_in}
-use Rattle.weak_laws.proofs.OfTables.ChangeLemmas.{table_kept}
+use Rattle.weak_laws.proofs.OfTables.ChangeLemmas.{table_kept, weak_parts}
 use Rattle.weak_laws.proofs.OfTables.CellLemmas.{links_head, links_behind}
 use Rattle.weak_laws.proofs.OfTables.CountLemmas.{declines_reading}
 use Rattle.weak_laws.proofs.OfTables.OutcomeLemmas.{full_reply}
@@ -38,14 +37,6 @@ pub reading_declines : (z : Sizes) (limits : IsWithinLimits z) (old new : List E
     → Declines z old new chains
 reading_declines z limits old new c r p reads root chains table =
     declines_reading z old new c r p reads root chains table (table_kept (Went z old new) [] (graph_of z old) (graph_of z (old ++ p.between)) (thins z limits old new c r p) root chains (λ l h. refl) table)
-
-weak_parts : (o : Option Node) → IsTrue (is_weak o) → (key : Option Label) × (datum : Value) × (o ≡ Some (Ephe (key ∷ []) datum))
-weak_parts None w = cc
-weak_parts (Some (Plain tag fields)) w = cc
-weak_parts (Some (Raw tag fields)) w = cc
-weak_parts (Some (Ephe [] datum)) w = cc
-weak_parts (Some (Ephe (key ∷ []) datum)) w = (key, datum, refl)
-weak_parts (Some (Ephe (key ∷ other ∷ keys) datum)) w = cc
 
 module _ (z : Sizes) (limits : IsWithinLimits z) (root : Label) (chains : List (List Cell)) (i : ℕ) where
   pub walk_kept : (now new : List Entry) (rs : List Value) (done rest : List Cell) → Walking z now root chains i done rest → After z now new [] rs → get_or rs 9 Nothing ≡ head_of rest → Walking z new root chains i done rest

@@ -7,7 +7,7 @@ use Rattle.model_laws.specs.Reach.Walks.{Still, Walked, Walks}
 use Rattle.model_laws.proofs.OfReach.Adding.{extends_long}
 use Rattle.model_laws.proofs.OfReach.BlockSteps.{explored_on}
 use Rattle.model_laws.proofs.OfReach.Going.{still_same}
-use Rattle.model_laws.proofs.OfReach.WalkSteps.{walks_at, walks_prefix, walks_same, walks_trans}
+use Rattle.model_laws.proofs.OfReach.WalkSteps.{walks_on, walks_prefix, walks_same}
 use Rattle.model_laws.proofs.reach.exploring.explore.Goals as goal
 
 pub places-init : goal.places-init
@@ -17,10 +17,7 @@ places-init g c =
     let first : List Entry = g.M.Walker.front c.args.m.now in
     let e = c.note_roots.ensures in
     let front : g.M.Walker.front c.note_roots.new.m ≡ first = e.front in record {
-      home = e.home;
-      sizes = e.sizes;
-      number = e.number;
-      walks = subst (Walks d first) (sym front) (walks_same d first);
+      on = record { home = e.home; sizes = e.sizes; number = e.number; walks = subst (Walks d first) (sym front) (walks_same d first) };
       ordered = c.in_ok-note_roots.ensures.ordered;
       once = c.in_ok-note_roots.ensures.once;
       inside = omega arith;
@@ -41,12 +38,9 @@ places-preserved g c =
     let new : List Seen = c.look.new.seen.items in
     let i = c.places.invariant in
     let e = c.in_ok-weak.ensures in record {
-      home = c.look.ensures.home ∙ i.home;
-      sizes = c.look.ensures.sizes ∙ i.sizes;
-      number = c.look.ensures.number ∙ i.number;
-      walks = walks_trans d first now next i.walks (walks_at d (g.M.Walker.number c.places.m) now next i.number c.look.ensures.walks);
+      on = walks_on i.on c.look.ensures.on;
       ordered = e.ordered;
       once = e.once;
       inside = (let more : c.places.at < length new = extends_long seen new e.goes_on c.places.at (let h : c.places.at < length seen = search rules in h) in omega arith);
-      explored = explored_on z _ d _ first now next c.args.stop c.places.at seen new c.places.weak c.in_ok-weak.field-0 i.sizes i.number (walks_prefix d first now i.walks) (walks_prefix (g.M.Walker.number c.places.m) now next c.look.ensures.walks) i.ordered e.ordered i.explored e.looked;
+      explored = explored_on z _ d _ first now next c.args.stop c.places.at seen new c.places.weak c.in_ok-weak.field-0 i.on.sizes i.on.number (walks_prefix d first now i.on.walks) (walks_prefix (g.M.Walker.number c.places.m) now next c.look.ensures.on.walks) i.ordered e.ordered i.explored e.looked;
     }

@@ -33,7 +33,7 @@ returns-clause-looked g c =
     (λ _. Extends seen new)
     (λ weak. Walked (g.M.Walker.number c.go.new.m) mid last → Still (g.M.Walker.sizes c.go.new.m) (g.M.Walker.number c.go.new.m) mid last × ((x : Seen) → slice_get seen c.args.at ≡ Some x → register (state_of (g.M.Walker.sizes c.go.new.m) mid) (g.M.Walker.number c.go.new.m) 14 ≡ Block x.label → Visited (graph_of (g.M.Walker.sizes c.go.new.m) mid) c.args.at x.label seen new weak))
     (λ weak. Walked d first last → Looked z d first last c.args.stop c.args.at seen new weak)
-    (λ weak goes_on visited. looked_by z (g.M.Walker.sizes c.go.new.m) d (g.M.Walker.number c.go.new.m) first mid last c.args.stop c.in_ok-way.way c.args.at seen new weak b c.go.ensures.sizes c.go.ensures.number (walks_prefix d first mid c.go.ensures.walks) (walks_prefix (g.M.Walker.number c.go.new.m) mid last c.visit.ensures.walks) found (c.is_stop.ensures.no c.if-is_stop.false) goes_on
+    (λ weak goes_on visited. looked_by z (g.M.Walker.sizes c.go.new.m) d (g.M.Walker.number c.go.new.m) first mid last c.args.stop c.in_ok-way.way c.args.at seen new weak b c.go.ensures.on.sizes c.go.ensures.on.number (walks_prefix d first mid c.go.ensures.on.walks) (walks_prefix (g.M.Walker.number c.go.new.m) mid last c.visit.ensures.on.walks) found (c.is_stop.ensures.no c.if-is_stop.false) goes_on
     (subst (λ (xs : List Seen). (f : Edges) (roots : ℕ → Option Label) (x : Seen) → AllTraced f roots xs → slice_get xs c.args.at ≡ Some x → leads f roots c.in_ok-way.way ≡ Some x.label) c.deref.ensures.value c.in_ok-way.ensures.leads)
     c.in_ok-go.ensures.went visited)
     c.visit.ensures.goes_on
