@@ -146,18 +146,23 @@ held_reached s d r k held = reachable_roots s.graph (roots s (queues s)) k (has-
 pub outside_unheld : (s : State) (k : Label) → IsOutside s k → IsUnheld s k
 outside_unheld s k outside d r held = let there = held_reached s d r k held in let clash : true ≡ false = sym there ∙ is_false _ outside in cc
 
+-- what holds of each kind of entry of the collector holds of its entries
+pub collector_each : (P : Entry → Type 0) → P Cut → ((d : ℕ) (places : List ℕ) → P (Queue d places)) → P Seal → ((l : Label) (keys : List ℕ) → P (Wipe l keys))
+    → ((d place : ℕ) → P (LastOf d place)) → P Collected → P Done → (e : Entry) → IsTrue (is_collector e) → P e
+collector_each P cut queue seal wipe last collected done Cut mine = cut
+collector_each P cut queue seal wipe last collected done (Queue d places) mine = queue d places
+collector_each P cut queue seal wipe last collected done Seal mine = seal
+collector_each P cut queue seal wipe last collected done (Wipe l keys) mine = wipe l keys
+collector_each P cut queue seal wipe last collected done (LastOf d place) mine = last d place
+collector_each P cut queue seal wipe last collected done Collected mine = collected
+collector_each P cut queue seal wipe last collected done Done mine = done
+collector_each P cut queue seal wipe last collected done (CommandOf d c full) mine = cc
+collector_each P cut queue seal wipe last collected done (End d) mine = cc
+collector_each P cut queue seal wipe last collected done (Ran d) mine = cc
+
 -- an entry of the collector is no entry of a domain
 pub collector_other : (e : Entry) (d : ℕ) → IsTrue (is_collector e) → is_entry_of d e ≡ false
-collector_other (CommandOf k c full) d mine = cc
-collector_other (End k) d mine = cc
-collector_other Cut d mine = refl
-collector_other (Queue k places) d mine = refl
-collector_other Seal d mine = refl
-collector_other (Wipe l keys) d mine = refl
-collector_other (LastOf k place) d mine = refl
-collector_other Collected d mine = refl
-collector_other Done d mine = refl
-collector_other (Ran k) d mine = cc
+collector_other e d = collector_each (λ x. is_entry_of d x ≡ false) refl (λ k places. refl) refl (λ l keys. refl) (λ k place. refl) refl refl e
 
 unheld_before : (s : State) (e : Entry) (k : Label) → IsTrue (is_collector e) → IsUnheld (next s e) k → IsUnheld s k
 unheld_before s e k mine unheld d r held = unheld d r (ap (λ (rs : List Value). get_or rs r Nothing) (keeps_next s e d (collector_other e d mine)).registers ∙ held)

@@ -27,6 +27,7 @@ use Rattle.weak_laws.proofs.OfTables.ChangeLemmas.{not_first, thin_is, changes_t
 use Rattle.weak_laws.proofs.OfTables.CollectorLemmas.{stretch_thins}
 use Rattle.weak_laws.proofs.OfTables.StageLemmas.{prefix_trans, later_outside, since_outside, goes_from}
 use Rattle.weak_laws.proofs.OfTables.StepLemmas.{legal_parts}
+use Rattle.weak_laws.proofs.OfTables.SizeLemmas.{one_binding}
 
 -- two graphs that differ at one label at most
 abbrev SameBut : Label → Graph → Graph → Type 0
@@ -34,15 +35,6 @@ SameBut l g h = (x : Label) → (x ≡ l → ⊥) → node_at h x ≡ node_at g 
 
 differs : (x l : Label) → same_label x l ≡ false → x ≡ l → ⊥
 differs x l e same = let yes : same_label x l ≡ true = subst (λ (k : Label). same_label x k ≡ true) same (same_label_refl x) in let clash : true ≡ false = sym yes ∙ e in cc
-
-one_binding : (o : Option Node) → length (binding_of o) ≤ 1
-one_binding None = omega arith
-one_binding (Some (Plain tag fields)) = omega arith
-one_binding (Some (Raw tag fields)) = omega arith
-one_binding (Some (Ephe [] datum)) = omega arith
-one_binding (Some (Ephe (None ∷ []) datum)) = omega arith
-one_binding (Some (Ephe (Some k ∷ []) datum)) = omega arith
-one_binding (Some (Ephe (key ∷ other ∷ keys) datum)) = omega arith
 
 module _ (l : Label) (g h : Graph) (same : SameBut l g h) where
   chain_same : (cells : List Cell) → has_label (cell_labels cells) l ≡ false → chain_bindings h cells ≡ chain_bindings g cells

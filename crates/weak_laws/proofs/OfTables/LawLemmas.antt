@@ -27,6 +27,7 @@ use Rattle.weak_laws.proofs.OfTables.LookupLemmas.{bucket_parts}
 use Rattle.weak_laws.proofs.OfTables.ChangeLemmas.{table_kept, bindings_thinned, array_kept}
 use Rattle.weak_laws.proofs.OfTables.CollectorLemmas.{collector_outside}
 use Rattle.weak_laws.proofs.OfTables.StepLemmas.{legal_parts}
+use Rattle.weak_laws.proofs.OfMaps.ReachLemmas.{field_named}
 
 pub tables_law : TakesFromTables
 tables_law s e mine allowed root chains table =
@@ -66,15 +67,6 @@ arrays_law s e mine allowed root slots array =
 module _ (g : Graph) (alive : Label → Bool) (closed : IsClosedUnder g alive) where
   edge : (l m : Label) (tag : ℕ) (fields : List Value) → IsTrue (alive l) → node_at g l ≡ Some (Plain tag fields) → IsTrue (has_label (filter_map label_of fields) m) → IsTrue (alive m)
   edge l m tag fields lives at named = closed l m lives (subst (λ o. IsTrue (has_label (option_map_or (edges_of alive) o []) m)) (sym at) named)
-
-  field_named : (fields : List Value) (i : ℕ) (m : Label) → get_or fields i Nothing ≡ Block m → IsTrue (has_label (filter_map label_of fields) m)
-  field_named [] i m is = cc
-  field_named (Int z ∷ fields) zero m is = cc
-  field_named (Nothing ∷ fields) zero m is = cc
-  field_named (Block l ∷ fields) zero m is = let same : l ≡ m = cc in or_left (same_label l m) _ (subst (λ x. IsTrue (same_label l x)) same (same_label_refl l))
-  field_named (Int z ∷ fields) (suc i) m is = field_named fields i m is
-  field_named (Nothing ∷ fields) (suc i) m is = field_named fields i m is
-  field_named (Block l ∷ fields) (suc i) m is = or_right (same_label l m) _ (field_named fields i m is)
 
   -- each key in a chain, if each full key of an ephemeron that is held is held
   module _ (keys : (l : Label) → IsTrue (alive l) → IsTrue (keys_are_live alive (node_at g l))) where

@@ -22,6 +22,7 @@ use Rattle.model_core.specs.Counts.Counts.{blocks_of, labels_given, labels_of}
 use Rattle.weak_laws.specs.Tables.Thinning.{is_collector, AllCollector, state_of}
 use Rattle.weak_laws.specs.Tables.Performing.{Performed, refused, refusals, full_of, refused_by}
 use Rattle.weak_laws.proofs.OfTables.StepLemmas.{not_full}
+use Rattle.weak_laws.proofs.OfTables.CollectorLemmas.{collector_each}
 
 -- what a command answers of itself is never `full`
 abbrev IsGiven : Outcome → Type 0
@@ -148,16 +149,7 @@ collector_refuses_none (e ∷ h) mine =
     omega (arith, here, rest)
   where
     one : (e : Entry) → IsTrue (is_collector e) → refused e ≡ 0
-    one (Command d c full) is = cc
-    one (End d) is = cc
-    one (Ran d) is = cc
-    one Cut is = refl
-    one (Queue d places) is = refl
-    one Seal is = refl
-    one (Wipe l keys) is = refl
-    one (LastOf d place) is = refl
-    one Collected is = refl
-    one DoneOf is = refl
+    one = collector_each (λ e. refused e ≡ 0) refl (λ d places. refl) refl (λ l keys. refl) (λ d place. refl) refl refl
 
 -- one command more is refused exactly where the reply is `full`
 pub performed_refusals : (z : Sizes) (old new : List Entry) (c : declared_command.Command) (r : Reply) → Performed z old new c r → refusals new ≡ refusals old + full_of r

@@ -131,7 +131,7 @@ label_there (e ∷ g) l n at = ⊎_elim
     (true_or_false (same_label e.0 l))
 
 -- each cell binds one key at most, and has two blocks
-one_binding : (o : Option Node) → length (binding_of o) ≤ 1
+pub one_binding : (o : Option Node) → length (binding_of o) ≤ 1
 one_binding None = omega arith
 one_binding (Some (Plain tag fields)) = omega arith
 one_binding (Some (Raw tag fields)) = omega arith

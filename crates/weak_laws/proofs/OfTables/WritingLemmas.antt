@@ -8,6 +8,7 @@ use Rattle.model_core.specs.declared.state.Sizes.{Sizes}
 use Rattle.model_core.proofs.Reach.ReachLemmas.{and_left, and_right}
 use Rattle.weak_laws.specs.Tables.Thinning.{is_collector, AllCollector}
 use Rattle.weak_laws.specs.Tables.Performing.{Performed, writes, written, writings}
+use Rattle.weak_laws.proofs.OfTables.CollectorLemmas.{collector_each}
 
 pub writings-append : (h k : List Entry) → writings (h ++ k) ≡ writings h + writings k
 writings-append [] k = omega arith
@@ -22,16 +23,7 @@ collector_writes_none (e ∷ h) mine =
     omega (arith, here, rest)
   where
     one : (e : Entry) → IsTrue (is_collector e) → written e ≡ 0
-    one (Command d c full) is = cc
-    one (End d) is = cc
-    one (Ran d) is = cc
-    one Cut is = refl
-    one (Queue d places) is = refl
-    one Seal is = refl
-    one (Wipe l keys) is = refl
-    one (LastOf d place) is = refl
-    one Collected is = refl
-    one DoneOf is = refl
+    one = collector_each (λ e. written e ≡ 0) refl (λ d places. refl) refl (λ l keys. refl) (λ d place. refl) refl refl
 
 -- one command more
 pub performed_writings : (z : Sizes) (old new : List Entry) (c : declared_command.Command) (r : Reply) → Performed z old new c r → writings new ≡ writings old + writes c
