@@ -5,3 +5,4 @@ pub mod ShapeLemmas
 pub mod LeavesLemmas
 pub mod DomainStepLemmas
 pub mod FrameLemmas
+pub mod SerialLemmas

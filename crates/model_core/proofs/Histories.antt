@@ -7,6 +7,7 @@ pub mod ShapeAfterLemmas
 pub mod TallyLemmas
 pub mod AnswerLemmas
 pub mod SizesLemmas
+pub mod EndedLemmas
 pub mod FreshLemmas
 pub mod FieldLemmas
 pub mod Rows

@@ -108,6 +108,24 @@ module _ (s : State) (d : ℕ) where
   has_block : (l : Label) (n : Node) → Has (with_block s l n) d (with_node s.graph l n) mine.registers mine.serial
   has_block l n = record { graph_is = refl; registers_are = refl; serial_is = refl }
 
+  -- a command leaves what its outcome has
+  pub leaves_of : (c : Command) (o : Outcome) → outcome s d c ≡ o → Leaves s (CommandOf d c false) d o.state.graph (domain_at o.state d).registers (domain_at o.state d).serial (Replied o.reply)
+  leaves_of c o is = leaves_outcome c _ _ _ o is (record { graph_is = refl; registers_are = refl; serial_is = refl })
+
+  -- one that only replies
+  pub leaves_reply : (c : Command) (r : Reply) → outcome s d c ≡ only_replies s r → Leaves s (CommandOf d c false) d s.graph mine.registers mine.serial (Replied r)
+  leaves_reply c r is = leaves_outcome c _ _ _ (only_replies s r) is has_same
+
+  -- one that reads into a register
+  pub leaves_read : d < length s.domains → (c : Command) (dst : ℕ) (v : Value) → outcome s d c ≡ read_into s d dst v
+      → Leaves s (CommandOf d c false) d s.graph (set mine.registers dst v) mine.serial (Replied (shown v))
+  leaves_read inside c dst v is = leaves_outcome c _ _ _ (read_into s d dst v) is (has_register inside dst v)
+
+  -- one that writes a block
+  pub leaves_block : (c : Command) (l : Label) (n : Node) → outcome s d c ≡ done_with (with_block s l n)
+      → Leaves s (CommandOf d c false) d (with_node s.graph l n) mine.registers mine.serial (Replied Done)
+  leaves_block c l n is = leaves_outcome c _ _ _ (done_with (with_block s l n)) is (has_block l n)
+
   pub leaves_put : d < length s.domains → (dst : ℕ) (z : ℤ) → Leaves s (CommandOf d (PutInt dst z) false) d s.graph (set mine.registers dst (Int z)) mine.serial (Replied Done)
   leaves_put inside dst z = leaves_outcome (PutInt dst z) _ _ _ _ refl (has_register inside dst (Int z))
 

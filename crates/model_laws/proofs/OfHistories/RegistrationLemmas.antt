@@ -25,39 +25,8 @@ use Rattle.model_core.proofs.Histories.TallyLemmas.{one_place, tally, tally-appe
 use Rattle.model_core.proofs.Commands.MoveLemmas.{registers_one}
 use Rattle.model_core.proofs.Commands.DomainStepLemmas.{SameWork, work_outcome}
 use Rattle.model_core.proofs.Collections.RegistrationLemmas.{Fits, Outlives, fits_next, none_at_start}
+use Rattle.model_core.proofs.Histories.EndedLemmas.{running_before}
 use Rattle.model_laws.specs.Histories.Finalisers.{NoRegistrationIsLost}
-
--- a domain that has ended makes no entry, and stays so
-entry_running : (s : State) (e : Entry) (k : ℕ) → Allowed s e → is_entry_of k e ≡ true → (domain_at s k).ended ≡ false
-entry_running s (CommandOf d c full) k allowed own = subst (λ j. (domain_at s j).ended ≡ false) (eqb-true d k own) allowed.running
-entry_running s (End d) k allowed own = subst (λ j. (domain_at s j).ended ≡ false) (eqb-true d k own) allowed.running
-entry_running s (Ran d) k allowed own = subst (λ j. (domain_at s j).ended ≡ false) (eqb-true d k own) allowed.running
-entry_running s Cut k allowed own = cc
-entry_running s (Queue d places) k allowed own = cc
-entry_running s Seal k allowed own = cc
-entry_running s (Wipe l keys) k allowed own = cc
-entry_running s (LastOf d place) k allowed own = cc
-entry_running s Collected k allowed own = cc
-entry_running s Done k allowed own = cc
-
-ended_next : (s : State) (e : Entry) (k : ℕ) → Allowed s e → (domain_at s k).ended ≡ true → (domain_at (next s e) k).ended ≡ true
-ended_next s e k allowed over = go (is_entry_of k e) refl
-  where
-    go : (b : Bool) → is_entry_of k e ≡ b → (domain_at (next s e) k).ended ≡ true
-    go true own = absurd (let clash : true ≡ false = sym over ∙ entry_running s e k allowed own in cc)
-    go false own = (keeps_next s e k own).ended ∙ over
-
-ended_after : (s : State) (h : List Entry) (k : ℕ) → LegalFrom s h → (domain_at s k).ended ≡ true → (domain_at (state_after s h) k).ended ≡ true
-ended_after s [] k legal over = over
-ended_after s (e ∷ h) k legal over = ended_after (next s e) h k legal.1 (ended_next s e k legal.0 over)
-
--- so where it runs in the end it has run all along
-pub ran_on : (s : State) (h : List Entry) (k : ℕ) → LegalFrom s h → (domain_at (state_after s h) k).ended ≡ false → (domain_at s k).ended ≡ false
-ran_on s h k legal runs = go (domain_at s k).ended refl
-  where
-    go : (b : Bool) → (domain_at s k).ended ≡ b → b ≡ false
-    go true over = absurd (let clash : true ≡ false = sym (ended_after s h k legal over) ∙ runs in cc)
-    go false over = refl
 
 -- a domain that runs afterwards hasn't ended
 outlives : (s : State) (e : Entry) (k : ℕ) → Allowed s e → (domain_at (next s e) k).ended ≡ false → Outlives k e
@@ -84,7 +53,7 @@ module _ (f : Pending → ℕ) where
       → Fits f k s (state_after s h) (tally f (all_ran k s h)) (tally f (all_registered k s h))
   fits_all s [] k legal runs = omega arith
   fits_all s (e ∷ h) k legal runs =
-      let first = fits_next f s k e legal.0 (outlives s e k legal.0 (ran_on (next s e) h k legal.1 runs)) in
+      let first = fits_next f s k e legal.0 (outlives s e k legal.0 (running_before (next s e) h k legal.1 runs)) in
       let rest = fits_all (next s e) h k legal.1 runs in
       let done = tally-append f (ran k s e) (all_ran k (next s e) h) in
       let made = tally-append f (registered k s e) (all_registered k (next s e) h) in

@@ -30,7 +30,8 @@ use Rattle.model_traces.proofs.OfSchedules.Steps.{step_law}
 use Rattle.model_traces.specs.Scheduled.Runs.{EndsIn}
 use Rattle.model_traces.proofs.OfScheduled.Sections.{IsTurn, no_queue, no_run, no_taking, turn_taken}
 use Rattle.model_traces.specs.Orders.Turns.{IsMadeIn, IsOwnTurn, TurnsAreScheduled, runs_queue}
-use Rattle.model_traces.proofs.OfOrders.Ending.{end_ends, ended_stays, none_behind, running_before}
+use Rattle.model_core.proofs.Histories.EndedLemmas.{ended_stays, running_before}
+use Rattle.model_traces.proofs.OfOrders.Ending.{end_ends, none_behind}
 
 -- a state is the same as itself
 all_alive : (ls : List Label) → AllAlive (λ l. true) ls

@@ -38,7 +38,8 @@ use Rattle.heap_rule.proofs.Entering.{registers_stand, entered_view, enters, may
 use Rattle.heap_rule.proofs.Blocks.{Lives, lives_at, found_at, plain_node, raw_node, shape_at}
 use Rattle.heap_rule.proofs.HeadLemmas.{packable_head, colour_small}
 use Rattle.step_run.proofs.OfFields.Advances.{EntersPaid, paid_refused, paid_rule}
-use Rattle.step_run.proofs.OfFields.EphemeronEntries.{leaves_reply, block_is}
+use Rattle.model_core.proofs.Commands.LeavesLemmas.{leaves_reply}
+use Rattle.step_run.proofs.OfFields.EphemeronEntries.{block_is}
 use Rattle.step_ephemerons.specs.Commands.Heads.{ephemeron_in, key_in, IsBlockValue, HasItem, HasKey, LacksKey, EpheHeadEntry, EpheHeadMay, EpheHeadTold, EpheHeadCase, subject}
 use Rattle.step_ephemerons.proofs.OfCommands.Outcomes.{unregistering_item, fits_item, Brings, plain_outcome, raw_outcome, past_outcome}
 use Rattle.step_ephemerons.proofs.OfCommands.Finding.{ephe_of}

@@ -16,10 +16,10 @@ use Rattle.model_core.specs.declared.state.Mode.TheVariants.{Open}
 use Rattle.model_core.specs.Graph.{label_of}
 use Rattle.model_core.specs.Domains.{domain_at, with_block, register, label_in}
 use Rattle.model_core.specs.Commands.{Outcome, only_replies, done_with, in_bounds, read_into, tells, block_in, at_ephe, key_set, key_stored, datum_set, key_value, is_full_value, outcome, FitsMode}
-use Rattle.model_core.proofs.Commands.LeavesLemmas.{Leaves}
+use Rattle.model_core.proofs.Commands.LeavesLemmas.{Leaves, leaves_reply, leaves_read}
 use Rattle.model_core.proofs.Commands.MoveLemmas.{registers_one}
 use Rattle.heap_rule.specs.declared.view.DomainView.{DomainView}
-use Rattle.step_run.proofs.OfFields.EphemeronEntries.{some_stored, leaves_reply, leaves_read}
+use Rattle.step_run.proofs.OfFields.EphemeronEntries.{some_stored}
 use Rattle.step_ephemerons.specs.Commands.Heads.{ephemeron_in, key_in, HasItem, LacksKey}
 use Rattle.step_ephemerons.specs.Commands.Loads.{IsLook, target_in, full_reply, look_reply}
 

@@ -30,7 +30,8 @@ use Rattle.heap_rule.specs.Standing.{Acts}
 use Rattle.heap_rule.proofs.Keeps.{Words, run_settled, whole_here}
 use Rattle.heap_rule.proofs.Entering.{registers_stand, may_begin}
 use Rattle.step_run.specs.Fields.Stores.{StoreTold, CanStore}
-use Rattle.step_run.proofs.OfFields.EphemeronEntries.{leaves_block, block_is}
+use Rattle.model_core.proofs.Commands.LeavesLemmas.{leaves_block}
+use Rattle.step_run.proofs.OfFields.EphemeronEntries.{block_is}
 use Rattle.step_run.proofs.OfFields.ValueSteps.{ValueStore, value_stores}
 use Rattle.step_ephemerons.specs.Commands.Heads.{ephemeron_in, key_in, HasItem}
 use Rattle.step_ephemerons.specs.Commands.Stores.{stored_value, WeakStoreMay, KeyStoreEntry, DataStoreEntry}

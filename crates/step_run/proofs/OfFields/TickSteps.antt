@@ -16,7 +16,7 @@ use Rattle.model_core.specs.declared.state.Mode.TheVariants.{Open}
 use Rattle.model_core.specs.declared.state.State as model
 use Rattle.model_core.specs.Domains.{domain_at, register, label_in}
 use Rattle.model_core.specs.Commands.{Outcome, FitsMode, is_allocation, outcome, only_replies, after_command, finalised, finalised_last, block_in, at_ephe, key_set, key_stored, datum_set, datum_stored, in_bounds, read_into, tells, key_value, is_full_value}
-use Rattle.model_core.proofs.Commands.LeavesLemmas.{leaves_put, leaves_copy, leaves_forget, leaves_poll, leaves_full, leaves_load_type, leaves_store_type, leaves_store_nothing, leaves_cas_type, leaves_cas_nothing, leaves_cas_unexpected, Leaves, leaves_minor, leaves_major, no_block}
+use Rattle.model_core.proofs.Commands.LeavesLemmas.{leaves_put, leaves_copy, leaves_forget, leaves_poll, leaves_full, leaves_load_type, leaves_store_type, leaves_store_nothing, leaves_cas_type, leaves_cas_nothing, leaves_cas_unexpected, Leaves, leaves_minor, leaves_major, no_block, leaves_reply}
 use Rattle.heap_words.specs.declared.value.Value.{Value}
 use Rattle.heap_words.specs.declared.value.Value.TheVariants.{Int as IntWord, Ref, Nothing as NothingWord}
 use Rattle.heap_rule.specs.declared.change.Change.{Change}
@@ -30,7 +30,7 @@ use Rattle.heap_rule.specs.Rule.{state_of, Rule}
 use Rattle.heap_rule.specs.Standing.{Acts}
 use Rattle.step_run.specs.Fields.Ticks.{is_quiet, TickCommand, TickEntry, TickMay, command_answer, tick_answer, TickTold}
 use Rattle.step_run.proofs.OfFields.FullSteps.{may_be_full}
-use Rattle.step_run.proofs.OfFields.EphemeronEntries.{leaves_reply, no_key_stored, no_datum_stored}
+use Rattle.step_run.proofs.OfFields.EphemeronEntries.{no_key_stored, no_datum_stored}
 use Rattle.heap_rule.proofs.ChangeLemmas.{registers_of}
 use Rattle.heap_rule.proofs.Values.{AllStand, stand_set, no_label, not_nothing, stands_nothing}
 use Rattle.heap_rule.proofs.Keeps.{Words, IsOfTrace, unmoved}
