@@ -27,7 +27,6 @@ use Rattle.weak_laws.proofs.OfTables.LookupLemmas.{bucket_parts}
 use Rattle.weak_laws.proofs.OfTables.ChangeLemmas.{table_kept, bindings_thinned, array_kept}
 use Rattle.weak_laws.proofs.OfTables.CollectorLemmas.{collector_outside, field_named}
 use Rattle.weak_laws.proofs.OfTables.StepLemmas.{legal_parts}
-use Rattle.weak_laws.proofs.OfMaps.ReachLemmas.{field_named}
 
 pub tables_law : TakesFromTables
 tables_law s e mine allowed root chains table =
