@@ -4,7 +4,7 @@ use Rattle.model_core.specs.declared.label.Label.{Label}
 use Rattle.model_core.specs.declared.entry.Entry.{Entry}
 use Rattle.model_core.specs.declared.reply.Reply.{Reply}
 use Rattle.model_core.specs.declared.state.Sizes.{Sizes}
-use Rattle.weak_cache.specs.Passes.{Begun, Cleared, CutsOut, Draws, DrawsBehind, FindsLeaf, MakesLeaf, MovesFirst, Passes, Tells}
+use Rattle.weak_cache.specs.Passes.{Begun, Cleared, CutsOut, Draws, DrawsBehind, FindsLeaf, MovesFirst, Passes, Tells}
 
 pub tells_at : (z now : Sizes) (d e : ℕ) (old new : List Entry) (slot : ℕ) (shows : Reply) (k : Label) (mine : Bool) → now ≡ z → e ≡ d → Tells now e old new slot shows k mine → Tells z d old new slot shows k mine
 tells_at z now d e old new slot shows k mine sizes domain x = subst (λ (w : Sizes × ℕ). Tells w.0 w.1 old new slot shows k mine) (λ i. (sizes i, domain i)) x
@@ -23,9 +23,6 @@ begun_at z now d e old first new cache key sizes domain front x = subst (λ (w :
 
 pub cleared_at : (z now : Sizes) (d e : ℕ) (old new : List Entry) → now ≡ z → e ≡ d → Cleared now e old new → Cleared z d old new
 cleared_at z now d e old new sizes domain x = subst (λ (w : Sizes × ℕ). Cleared w.0 w.1 old new) (λ i. (sizes i, domain i)) x
-
-pub leaf_at : (z now : Sizes) (d e : ℕ) (old new : List Entry) (key item : ℕ) (a b : Bool) → now ≡ z → e ≡ d → b ≡ a → MakesLeaf now e old new key item b → MakesLeaf z d old new key item a
-leaf_at z now d e old new key item a b sizes domain is x = subst (λ (w : Sizes × ℕ × Bool). MakesLeaf w.0 w.1 old new key item w.2) (λ i. (sizes i, domain i, is i)) x
 
 pub draws_at : (z now : Sizes) (d e : ℕ) (old new : List Entry) (j : ℕ) → now ≡ z → e ≡ d → Draws now e old new j → Draws z d old new j
 draws_at z now d e old new j sizes domain x = subst (λ (w : Sizes × ℕ). Draws w.0 w.1 old new j) (λ i. (sizes i, domain i)) x

@@ -25,7 +25,7 @@ use Rattle.weak_laws.proofs.OfMaps.CallLemmas.{alloc_step, ephe_step, get_data_s
 use Rattle.weak_laws.proofs.OfMaps.FrontLemmas.{prefix_same, prefix_trans}
 use Rattle.weak_laws.proofs.OfMaps.OwnLemmas.{grew_along}
 use Rattle.weak_maps.specs.Beside.{held_by}
-use Rattle.weak_maps.specs.Puts.{OwnBlock}
+use Rattle.weak_maps.specs.Puts.{OwnBlock, FilledLeaf}
 use Rattle.weak_maps.proofs.BesideLemmas.{same_held, set_here, set_other, since_old, sixteen, until_new}
 use Rattle.weak_maps.proofs.FreshLemmas.{not_held_before, own_born, own_middle, own_on, thin_empty}
 use Rattle.weak_maps.proofs.GetLemmas.{grows_by}
@@ -33,7 +33,7 @@ use Rattle.weak_maps.proofs.StayLemmas.{no_entry, quiet_on}
 use Rattle.weak_cache.specs.Uses.{AreOnce, cached_in, is_of, touched}
 use Rattle.weak_cache.specs.Caches.{IsCache, IsUse, OthersSpare, OwnSpare, slot_of, slots_after}
 use Rattle.weak_cache.specs.Calls.{GetReturns, LeavesCache, MakeReturns, PutReturns, PutsOrFull, TakeReturns}
-use Rattle.weak_cache.specs.Passes.{Cleared, Core, Finding, FoundLeaf, Keeping, KeepsBeside, MadeLeaf, Moved, Moving, StoodIn, UseLeft, cut_out, moved_by, was_of}
+use Rattle.weak_cache.specs.Passes.{Cleared, Core, Finding, FoundLeaf, Keeping, KeepsBeside, Moved, Moving, StoodIn, UseLeft, cut_out, moved_by, was_of}
 use Rattle.weak_cache.proofs.CoreLemmas.{core_mid, core_own, core_quiet, leaf_mid, leaf_quiet, spared_on, spared_quiet, spares_within}
 use Rattle.weak_cache.proofs.EndLemmas.{low_beside, cleared_clean, cleared_core, cleared_leaf, cleared_low, cleared_spared, forgot_core, forgot_here, forgot_others, forgot_spared, left_alone, left_first, left_taken, slots_are}
 use Rattle.weak_cache.proofs.ListLemmas.{cached_found, cached_none, taken_none}
@@ -44,7 +44,7 @@ module _ (z : Sizes) (limits : IsWithinLimits z) (d : ℕ) (c k : Label) (first 
   fs = cache_is.fields
 
   -- a leaf is made
-  module _ (now new : List Entry) (key item : ℕ) (few_key : key < 8) (few_item : item < 8) (e : MadeLeaf z d now new key item) (spares : OthersSpare z c d first new) (x : Keeping z d first now c k fs fs) (holds_key : held_by z d now key ≡ Block k) (some : held_by z d now item ≢ Nothing) where
+  module _ (now new : List Entry) (key item : ℕ) (few_key : key < 8) (few_item : item < 8) (e : FilledLeaf z d now new key item) (spares : OthersSpare z c d first new) (x : Keeping z d first now c k fs fs) (holds_key : held_by z d now key ≡ Block k) (some : held_by z d now item ≢ Nothing) where
     abbrev l : Label
     l = made z d now e.one (NewEphe 10 1) e.made_reply e.makes
 

@@ -1,7 +1,7 @@
 -- Where a call on a cache stands between its commands.
-use Rattle.std.specs.Prelude.{◌≡◌, ◌≢◌, ◌⊎◌, ◌<◌, ◌≤◌, ◌↔◌, ℕ, zero, suc, ◌+◌, Bool, true, false, cond, List, [], ◌∷◌, ◌++◌, length, slice_index_or, pos, Option, Some, None}
+use Rattle.std.specs.Prelude.{◌≡◌, ◌⊎◌, ◌<◌, ◌≤◌, ◌↔◌, ℕ, zero, suc, ◌+◌, Bool, true, false, cond, List, [], ◌∷◌, ◌++◌, length, slice_index_or, pos, Option, Some, None}
 use Rattle.model_core.specs.declared.label.Label.{Label}
-use Rattle.model_core.specs.declared.command.Command.TheVariants.{Copy, Ephe as NewEphe, Forget, GetKey, SetData, SetKey}
+use Rattle.model_core.specs.declared.command.Command.TheVariants.{Copy, Forget, GetKey}
 use Rattle.model_core.specs.declared.entry.Entry.{Entry}
 use Rattle.model_core.specs.declared.graph.Value.{Value}
 use Rattle.model_core.specs.declared.graph.Value.TheVariants.{Int, Block, Nothing}
@@ -159,22 +159,6 @@ DrawsBehind z d old new i size = (first : List Entry) (c k : Label) (fs : List V
 -- and the last is 0
 abbrev pub CutsOut : Sizes → ℕ → List Entry → List Entry → ℕ → ℕ → Type 0
 CutsOut z d old new i size = (first : List Entry) (c k : Label) (fs : List Value) → OthersSpare z c d first new → length fs ≡ size → i < size → Keeping z d first old c k fs fs → Keeping z d first new c k fs (cut_out i fs) × KeepsBeside z d old new
-
--- a leaf of the key in a register was made, with the value in another
-pub record MadeLeaf (z : Sizes) (d : ℕ) (old new : List Entry) (key item : ℕ) : Type 0 where
-  pub one : List Entry
-  pub two : List Entry
-  pub made_reply : Reply
-  pub data_reply : Reply
-  pub key_reply : Reply
-  pub granted : made_reply ≢ reply.Full
-  pub makes : PerformedBy z d old one (NewEphe 10 1) made_reply
-  pub sets : PerformedBy z d one two (SetData 10 item) data_reply
-  pub keys : PerformedBy z d two new (SetKey 10 0 key) key_reply
-
-abbrev pub MakesLeaf : Sizes → ℕ → List Entry → List Entry → ℕ → ℕ → Bool → Type 0
-MakesLeaf z d old new key item true = MadeLeaf z d old new key item
-MakesLeaf z d old new key item false = PerformedBy z d old new (NewEphe 10 1) reply.Full
 
 -- the key and the cache were copied into registers 12 and 13
 pub record Begun (z : Sizes) (d : ℕ) (old new : List Entry) (cache key : ℕ) : Type 0 where

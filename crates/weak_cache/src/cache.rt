@@ -6,15 +6,16 @@ ghost use Rattle.weak_laws.specs.Tables.Performing.{is_spared};
 ghost use Rattle.weak_laws.specs.Maps.Calls.{PerformedBy};
 ghost use Rattle.weak_cache.specs.Calls.{GetsAt, MakeReturns, PutsAt, TakesAt};
 ghost use Rattle.weak_cache.specs.Counts.{PutCounts};
-ghost use Rattle.weak_cache.specs.Passes.{Begun, Cleared, CutsOut, Draws, DrawsBehind, FindsLeaf, MakesLeaf, MovesFirst, Passes, Tells};
-ghost use Rattle.weak_maps.specs.Frames.{Allocates, Leaves, Makes, Puts, Reads};
+ghost use Rattle.weak_cache.specs.Passes.{Begun, Cleared, CutsOut, Draws, DrawsBehind, FindsLeaf, MovesFirst, Passes, Tells};
+ghost use Rattle.weak_maps.specs.Frames.{Allocates, Leaves, Puts, Reads};
 
 use model_core::command::Command;
 use model_core::label::Label;
 use model_core::reply::Reply;
 use std::sync::Wait;
 use weak_maps::machine::{Machine, perform};
-use weak_maps::replies::{is_block, is_empty, is_full, is_this};
+use weak_maps::putting::make_leaf;
+use weak_maps::replies::{is_block, is_empty, is_this};
 
 /// Makes a cache of so many slots, into a register below 8. It has nothing. Answers its block, or `full` where the allocation
 /// was refused: then the register is as before. One label is left.
@@ -213,34 +214,6 @@ fn clear<M: Machine, R: Wait>(m: &mut M, rt: &R)
     let _eleven = perform(m, rt, Command::Forget { dst: 11 });
     let _cache = perform(m, rt, Command::Forget { dst: 13 });
     let _key = perform(m, rt, Command::Forget { dst: 12 });
-}
-
-// Makes a leaf of the key in a register, with the value in another, into register 10. Tells whether the allocation wasn't
-// refused.
-fn make_leaf<M: Machine, R: Wait>(m: &mut M, rt: &R, key: u8, item: u8) -> bool
-    requires few { (key < 8) × (item < 8) }
-    requires label { 1 ≤ M.labels_left m.old }
-    requires room { 1 ≤ M.ephes_room m.old }
-    ensures makes { Makes M.sizes M.domain M.heap M.front M.labels_left m.old m.new result }
-    ensures room { M.ephes_room m.old ≤ M.ephes_room m.new + 1 }
-    ensures made { MakesLeaf (M.sizes m.old) (M.domain m.old) (M.front m.old) (M.front m.new) key item result }
-{
-    m.shows_legal();
-    let made = perform(m, rt, Command::Ephe { dst: 10, keys: 1 });
-    if is_full(&made) {
-        return false;
-    }
-    let _datum = perform(m, rt, Command::SetData { ephe: 10, item });
-    let _key = perform(
-        m,
-        rt,
-        Command::SetKey {
-            ephe: 10,
-            index: 0,
-            item: key,
-        },
-    );
-    true
 }
 
 /// Reads the value that the cache in a register has of the key in another, into a third, and makes that key the last used.

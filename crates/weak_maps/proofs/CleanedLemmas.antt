@@ -55,6 +55,10 @@ width_below left few = ap (λ (b : Bool). cond b root_width node_width) (not_six
     not_six true is = let same : left ≡ 6 = eqb-true left 6 is in absurd (omega (arith, same, few))
     not_six false is = refl
 
+pub positive : (m : ℕ) → m ≢ 0 → m - 1 + 1 ≡ m
+positive zero other = absurd (other refl)
+positive (suc m) other = omega arith
+
 -- how wide the block at a place is
 pub wide_at : (p : List ℕ) (left : ℕ) → length p + left ≡ 6 → width_at p ≡ width_of left
 wide_at [] left deep = let six : 6 ≡ left = omega (arith, deep) in ap width_of six

@@ -22,7 +22,7 @@ use Rattle.weak_maps.specs.Settles.{TryRefuses}
 use Rattle.weak_maps.proofs.BesideLemmas.{low_beside}
 use Rattle.weak_maps.proofs.DescendLemmas.{ends_there}
 use Rattle.weak_maps.proofs.SettleLemmas.{bound_node}
-use Rattle.weak_maps.proofs.StayLemmas.{looking_from}
+use Rattle.weak_maps.proofs.StayLemmas.{looking_from, field_as}
 
 -- what a put has counted when its last try ends it
 pub put_counts : (r : Reply) (rooms : ℕ) (other : Option Label) (labels left refused before now : ℕ) → rooms ≤ 6 → labels + rooms ≡ left + 7 → before ≡ refused → TryRefuses rooms other before now (Over r) → PutCounts labels left refused now r
@@ -66,26 +66,7 @@ put_crowded z root d old now n0 new k j v kr i rest i2 rest2 level steps s other
 }
   where
     here : AtField z d now now now root k i rest s
-    here = let x = t.field in record {
-      p = x.p;
-      left = x.left;
-      all = x.all;
-      way = x.way;
-      l = x.l;
-      held = x.held;
-      v = x.v;
-      holds = x.holds;
-      shows = x.shows;
-      since = prefix_same now;
-      until = x.until;
-      there = x.there;
-      fields = x.fields;
-      plain = x.plain;
-      was = x.was;
-      narrow = x.narrow;
-      map = x.map;
-      stays = x.stays;
-    }
+    here = field_as z d t.first now now now now root k i rest s t.field refl refl (prefix_same now) t.field.until t.field.stays
 
     depth : ℕ
     depth = length here.p + steps

@@ -1,5 +1,5 @@
 -- The outcomes of a field that is cleaned.
-use Rattle.std.proofs.Common.{◌≡◌, ◌≢◌, ◌⊎◌, inl, inr, ⊎_elim, ℕ, zero, suc, ◌+◌, ◌-◌, ◌<◌, ◌≤◌, Bool, true, false, cond, List, [], ◌∷◌, ◌++◌, Some, None, refl, ap, sym, ◌∙◌, subst, arith, length-append}
+use Rattle.std.proofs.Common.{◌≡◌, ◌≢◌, ◌⊎◌, inl, inr, ℕ, ◌+◌, ◌-◌, ◌<◌, ◌≤◌, Bool, true, false, cond, List, [], ◌∷◌, ◌++◌, Some, None, refl, ap, sym, ◌∙◌, subst, arith, length-append}
 use Rattle.model_core.specs.declared.label.Label.{Label}
 use Rattle.model_core.specs.declared.command.Command.TheVariants.{Load, GetKey, Store}
 use Rattle.model_core.specs.declared.entry.Entry.{Entry}
@@ -20,7 +20,7 @@ use Rattle.weak_maps.specs.Beside.{held_by}
 use Rattle.weak_maps.specs.Cleans.{AtBlock, CleansBlock, CleansField, EmptiesField, width_of}
 use Rattle.weak_maps.specs.Commands.{IsBlock}
 use Rattle.weak_maps.proofs.CleanLemmas.{leaves_within}
-use Rattle.weak_maps.proofs.CleanedLemmas.{Met, Read, block_begins, block_next, block_stands, dead_field, free_field, inner_block, kept_block, live_field, meets, reads, spent_block, wide_at}
+use Rattle.weak_maps.proofs.CleanedLemmas.{Met, Read, block_begins, block_next, block_stands, dead_field, free_field, inner_block, kept_block, live_field, meets, reads, spent_block, wide_at, positive}
 use Rattle.weak_maps.proofs.GetLemmas.{grows_by}
 
 module _ (z : Sizes) (limits : IsWithinLimits z) (d : ℕ) (old n0 : List Entry) (block left i : ℕ) (few : (left ≤ 6) × (block < 14 - left)) (r0 : Reply) (p0 : PerformedBy z d old n0 (Load (14 - left) block i) r0) where
@@ -98,13 +98,6 @@ module _ (z : Sizes) (limits : IsWithinLimits z) (d : ℕ) (old n0 : List Entry)
 
       one_less : deeper + 1 ≡ left
       one_less = positive left some
-        where
-          positive : (m : ℕ) → m ≢ 0 → m - 1 + 1 ≡ m
-          positive m other = ⊎_elim (λ e. absurd (other e)) (λ more. omega (arith, more)) (none_or m)
-            where
-              none_or : (k : ℕ) → (k ≡ 0) ⊎ (1 ≤ k)
-              none_or zero = inl refl
-              none_or (suc k) = inr (omega arith)
 
       g0 : IsPrefix old n1
       g0 = prefix_trans old n0 n1 (grows_by z d old n0 (Load value block i) r0 p0) (grows_by z d n0 n1 (GetKey value value 0) r1 p1)

@@ -8,7 +8,6 @@ use Rattle.model_core.specs.declared.reply.Reply.{Reply}
 use Rattle.model_core.specs.declared.reply.Reply.TheVariants as reply
 use Rattle.model_core.specs.declared.graph.Value.{Value}
 use Rattle.model_core.specs.declared.graph.Value.TheVariants.{Block}
-use Rattle.model_core.specs.declared.graph.Node.TheVariants.{Ephe}
 use Rattle.model_core.specs.declared.state.Sizes.{Sizes}
 use Rattle.model_core.specs.Graph.{Graph, node_at}
 use Rattle.model_core.specs.Domains.{IsWithinLimits}
@@ -24,9 +23,10 @@ use Rattle.weak_maps.specs.Beside.{held_by}
 use Rattle.weak_maps.specs.Walks.{LeafTells, Looking}
 use Rattle.weak_maps.specs.Fields.{AtField, FoundBy, FoundMine, FoundNone, KeepsWalked, MapStays, Walked}
 use Rattle.weak_maps.proofs.BesideLemmas.{sixteen, set_here, set_other, same_held}
-use Rattle.weak_maps.proofs.StayLemmas.{leaf_middle, looking_on, prefix_same, stays_middle, stays_same, stays_twice}
+use Rattle.weak_maps.proofs.StayLemmas.{leaf_middle, looking_on, prefix_same, stays_middle, stays_same, stays_twice, field_as}
 use Rattle.weak_maps.proofs.DescendLemmas.{below_root, below_width, block_of, leaf_none, leaf_tells, loads_inner, none_bound, plain_node, shown_no_type, way_ends}
 use Rattle.weak_maps.proofs.GetLemmas.{grows_by}
+use Rattle.weak_maps.proofs.KeyLemmas.{KeyTells, key_shown, leaf_key}
 
 stays_here : (z : Sizes) (root : Label) (a : List Entry) → IsMap (graph_of z a) root → MapStays z root a a
 stays_here z root a map = record { map = map; block = λ q u fields there plain. (there, (fields, plain)) }
@@ -83,26 +83,9 @@ module _ (z : Sizes) (limits : IsWithinLimits z) (root : Label) (d : ℕ) (first
   -- while a command that writes neither the map nor registers 8 and 9 is made
   pub field_on : (front now new : List Entry) (c : Command) (r : Reply) (i rest : ℕ) (s : Reply) → (p : PerformedBy z d now new c r) → graph_of z new ≡ graph_of z (now ++ p.between) → held_by z d new 8 ≡ held_by z d now 8 → held_by z d new 9 ≡ held_by z d now 9
       → OthersRespect z root d first new → Looking z root d first now → AtField z d first front now root k i rest s → AtField z d first front new root k i rest s
-  field_on front now new c r i rest s p same eight nine respects looking x = record {
-    p = x.p;
-    left = x.left;
-    all = x.all;
-    way = x.way;
-    l = x.l;
-    held = eight ∙ x.held;
-    v = x.v;
-    holds = nine ∙ x.holds;
-    shows = x.shows;
-    since = x.since;
-    until = prefix_trans front now new x.until (grows_by z d now new c r p);
-    there = x.there;
-    fields = x.fields;
-    plain = x.plain;
-    was = x.was;
-    narrow = x.narrow;
-    map = x.map;
-    stays = stays_same z root front (now ++ p.between) new same (stays_twice z root front now (now ++ p.between) x.stays (stays_middle z root d first now new c r p respects looking.grows looking.map));
-  }
+  field_on front now new c r i rest s p same eight nine respects looking x =
+      field_as z d first first front now new root k i rest s x eight nine x.since (prefix_trans front now new x.until (grows_by z d now new c r p))
+      (stays_same z root front (now ++ p.between) new same (stays_twice z root front now (now ++ p.between) x.stays (stays_middle z root d first now new c r p respects looking.grows looking.map)))
 
   -- the way to the field, and the digits behind it
   field_way : (front now : List Entry) (i rest : ℕ) (s : Reply) (x : AtField z d first front now root k i rest s) → way_to z.domains k ≡ (x.p ++ i ∷ []) ++ low_digits x.left rest
@@ -117,18 +100,6 @@ module _ (z : Sizes) (limits : IsWithinLimits z) (root : Label) (d : ℕ) (first
         until = x.until;
         bound = way_ends z.domains (graph_of z front) root k (x.p ++ i ∷ []) (low_digits x.left rest) x.v (field_way front now i rest s x) x.was n.0 ∙ n.1;
       }
-
-  abbrev KeyTells : Option Value → Option Label → Type 0
-  KeyTells (Some datum) key = key ≡ Some k
-  KeyTells None key = key ≢ Some k
-
-  leaf_key : (g : Graph) (l : Label) (o : Option Value) → LeafTells g l k o → (key : Option Label) × (datum : Value) × (node_at g l ≡ Some (Ephe (key ∷ []) datum)) × KeyTells o key
-  leaf_key g l (Some datum) is = (Some k, datum, is, refl)
-  leaf_key g l None (key, datum, other, is) = (key, datum, is, other)
-
-  key_shown : (key : Option Label) → shown (key_value key) ≡ reply.Block k → key ≡ Some k
-  key_shown None is = cc
-  key_shown (Some l) is = let same : l ≡ k = cc in ap Some same
 
   key_no_type : (key : Option Label) → shown (key_value key) ≡ reply.BadType → ⊥
   key_no_type key is = shown_no_type (key_value key) is
@@ -166,7 +137,7 @@ module _ (z : Sizes) (limits : IsWithinLimits z) (root : Label) (d : ℕ) (first
         let o : Option Value = bound_by (graph_of z now) k (Block l) in
         let was : at (inside (graph_of z now)) (x.p ++ i ∷ []) (Block root) ≡ Some (Block l) = x.was ∙ ap Some is_l in
         let tells : LeafTells (graph_of z mid) l k o = leaf_middle z root d first now new c r p respects looking.grows k o kr l now (x.p ++ i ∷ []) (prefix_same now) was leaf key (leaf_tells (graph_of z now) l k leaf) in
-        let n = leaf_key (graph_of z mid) l o tells in
+        let n = leaf_key k (graph_of z mid) l o tells in
         let all = get_key_step z d now new r 11 9 p l n.0 n.1 (x.holds ∙ is_l) n.2 in
         let other : (j : ℕ) → j ≢ 11 → held_by z d new j ≡ held_by z d now j = set_other z d now new 11 (key_value n.0) all.1 in
         let looking2 = looking_on z root d first now new c r p all.0 respects looking in
@@ -189,11 +160,11 @@ module _ (z : Sizes) (limits : IsWithinLimits z) (root : Label) (d : ℕ) (first
               (λ none. record { front = now; since = looking.grows; until = grows_by z d now new c r p; bound = told ∙ none }),
         )
       where
-        met : (o : Option Value) → bound_after z root now k ≡ o → (key : Option Label) → KeyTells o key → r ≡ shown (key_value key) → ((datum : Value) → o ≡ Some datum → FoundMine z d first new root k i rest) → (o ≡ None → FoundNone z first new root k)
+        met : (o : Option Value) → bound_after z root now k ≡ o → (key : Option Label) → KeyTells k o key → r ≡ shown (key_value key) → ((datum : Value) → o ≡ Some datum → FoundMine z d first new root k i rest) → (o ≡ None → FoundNone z first new root k)
             → (mine : Bool) → (mine ≡ true → r ≡ reply.Block k) → (r ≡ reply.Block k → mine ≡ true) → FoundBy z d first new root k i rest mine
         met (Some datum) told key tells shows mine_is none_is true there back = mine_is datum refl
         met (Some datum) told key tells shows mine_is none_is false there back = let clash : false ≡ true = back (shows ∙ ap (λ (j : Option Label). shown (key_value j)) tells) in cc
-        met None told key tells shows mine_is none_is true there back = absurd (tells (key_shown key (sym shows ∙ there refl)))
+        met None told key tells shows mine_is none_is true there back = absurd (tells (key_shown k key (sym shows ∙ there refl)))
         met None told key tells shows mine_is none_is false there back = none_is refl
 
     pub field_key : KeyAnswers

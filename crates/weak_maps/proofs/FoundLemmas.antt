@@ -29,7 +29,7 @@ use Rattle.weak_maps.proofs.BesideLemmas.{set_other, until_new}
 use Rattle.weak_maps.proofs.DescendLemmas.{at_one, block_of, leaf_node, plain_node}
 use Rattle.weak_maps.proofs.GetLemmas.{grows_by}
 use Rattle.weak_maps.proofs.PublishLemmas.{binds_along}
-use Rattle.weak_maps.proofs.StayLemmas.{looking_on, prefix_same, respects_within, stays_middle, stays_same, stays_twice}
+use Rattle.weak_maps.proofs.StayLemmas.{looking_on, prefix_same, respects_within, stays_middle, stays_same, stays_twice, field_as}
 use Rattle.weak_laws.proofs.OfTables.StageLemmas.{prefix_trans}
 
 module _ (z : Sizes) (limits : IsWithinLimits z) (root : Label) (d : ℕ) (first : List Entry) (k : Label) where
@@ -114,26 +114,8 @@ module _ (z : Sizes) (limits : IsWithinLimits z) (root : Label) (d : ℕ) (first
           record {
             shows = s;
             front = now;
-            field = record {
-              p = x.p;
-              left = x.left;
-              all = x.all;
-              way = x.way;
-              l = x.l;
-              held = keeps 8 (λ e. absurd (omega (arith, e))) ∙ x.held;
-              v = x.v;
-              holds = keeps 9 (λ e. absurd (omega (arith, e))) ∙ x.holds;
-              shows = x.shows;
-              since = x.since;
-              until = prefix_trans now now new x.until (grows_by z d now new c r p);
-              there = x.there;
-              fields = x.fields;
-              plain = x.plain;
-              was = x.was;
-              narrow = x.narrow;
-              map = x.map;
-              stays = stays_same z root now mid new all.0 (stays_twice z root now now mid x.stays (stays_middle z root d first now new c r p respects looking.grows looking.map));
-            };
+            field = field_as z d first first now now new root k i rest s x (keeps 8 (λ e. absurd (omega (arith, e)))) (keeps 9 (λ e. absurd (omega (arith, e)))) x.since (prefix_trans now now new x.until (grows_by z d now new c r p))
+                (stays_same z root now mid new all.0 (stays_twice z root now now mid x.stays (stays_middle z root d first now new c r p respects looking.grows looking.map)));
             deep = deep;
             binds = record {
               binds = subst (λ (v : Value). BindsOnly (graph_of z new) (key_or k (other_block k r)) v) (sym is_l) (subst (λ (o : Option Label). IsLeafOf (graph_of z new) (key_or k o) l) (sym answer) tells.0);

@@ -57,9 +57,9 @@ module _ {M H : Type 0} {z : M → Sizes} {d : M → ℕ} {of : M → H} {front 
         written = ap (writings_by (d a)) x.front;
       }
 
-  -- where a command takes nothing
-  pub spends_none : {a b : M} {c : Command} {r : Reply} → takes c ≡ 0 → Spends z d of front labels room a b c r → Leaves z d of front labels room a b
-  spends_none none x =
+  -- a command that makes nothing
+  pub spends_reads : {a b : M} {c : Command} {r : Reply} → labels_of c + ephemerons_of c ≡ 0 → Spends z d of front labels room a b c r → Reads z d of front labels room a b (writes c)
+  spends_reads none x =
       let x_labels = x.labels in
       let x_room = x.room in
       let x_refused = x.refused in
@@ -70,8 +70,14 @@ module _ {M H : Type 0} {z : M → Sizes} {d : M → ℕ} {of : M → H} {front 
         labels = omega (arith, x_labels, x_given, none);
         room = omega (arith, x_room, none);
         given = omega (arith, x_refused, x_given, none);
-        written = omega (arith, x_written, none);
+        written = omega (arith, x_written);
       }
+
+  -- where a command takes nothing
+  pub spends_none : {a b : M} {c : Command} {r : Reply} → takes c ≡ 0 → Spends z d of front labels room a b c r → Leaves z d of front labels room a b
+  spends_none none x =
+      let less = spends_reads (omega (arith, none)) x in
+      let x_written = x.written in record { stays = x.stays; grows = x.grows; labels = less.labels; room = less.room; given = less.given; written = omega (arith, x_written, none) }
 
   -- a call that writes registers from 1 to 7, between others that write none
   pub leaves_reads : {a b : M} {n : ℕ} → Leaves z d of front labels room a b → Reads z d of front labels room a b n
@@ -107,23 +113,7 @@ module _ {M H : Type 0} {z : M → Sizes} {d : M → ℕ} {of : M → H} {front 
   pub reads_then : {a b c : M} {n : ℕ} → Reads z d of front labels room a b n → Leaves z d of front labels room b c → Reads z d of front labels room a c n
   reads_then {n = n} x y = reads_most (omega arith) (reads_twice x (leaves_reads {n = 0} y))
 
-  -- a command that makes nothing
-  pub spends_reads : {a b : M} {c : Command} {r : Reply} → labels_of c + ephemerons_of c ≡ 0 → Spends z d of front labels room a b c r → Reads z d of front labels room a b (writes c)
-  spends_reads none x =
-      let x_labels = x.labels in
-      let x_room = x.room in
-      let x_refused = x.refused in
-      let x_given = x.given in
-      let x_written = x.written in record {
-        stays = x.stays;
-        grows = x.grows;
-        labels = omega (arith, x_labels, x_given, none);
-        room = omega (arith, x_room, none);
-        given = omega (arith, x_refused, x_given, none);
-        written = omega (arith, x_written);
-      }
-
-  -- one that makes a block
+  -- a command that makes a block
   pub spends_allocates : {a b : M} {dst tag fields : ℕ} {r : Reply} → Spends z d of front labels room a b (Alloc dst tag fields) r → Allocates z d of front labels room a b dst r
   spends_allocates x =
       let x_labels = x.labels in

@@ -1,5 +1,5 @@
 -- What `map_get` answers and leaves, command by command.
-use Rattle.std.proofs.Common.{◌≡◌, ◌≢◌, ℕ, ◌<◌, true, List, [], ◌∷◌, ◌++◌, Option, Some, None, refl, ap, sym, ◌∙◌, subst, arith}
+use Rattle.std.proofs.Common.{◌≡◌, ◌≢◌, ℕ, ◌<◌, true, List, ◌++◌, Option, Some, None, refl, ap, sym, ◌∙◌, subst, arith}
 use Rattle.model_core.specs.declared.label.Label.{Label}
 use Rattle.model_core.specs.declared.command.Command.{Command}
 use Rattle.model_core.specs.declared.command.Command.TheVariants.{Forget, GetKey, GetData}
@@ -8,9 +8,8 @@ use Rattle.model_core.specs.declared.reply.Reply.{Reply}
 use Rattle.model_core.specs.declared.reply.Reply.TheVariants as reply
 use Rattle.model_core.specs.declared.graph.Value.{Value}
 use Rattle.model_core.specs.declared.graph.Value.TheVariants.{Int, Block, Nothing}
-use Rattle.model_core.specs.declared.graph.Node.TheVariants.{Ephe}
 use Rattle.model_core.specs.declared.state.Sizes.{Sizes}
-use Rattle.model_core.specs.Graph.{Graph, node_at}
+use Rattle.model_core.specs.Graph.{Graph}
 use Rattle.model_core.specs.Domains.{IsWithinLimits}
 use Rattle.model_core.specs.Commands.{shown, key_value}
 use Rattle.model_core.specs.History.{IsPrefix}
@@ -24,6 +23,7 @@ use Rattle.weak_maps.specs.Walks.{Emptied, HoldsLeaf, KeepsButEight, LeafTells, 
 use Rattle.weak_maps.specs.Returns.{GetReturns}
 use Rattle.weak_maps.proofs.BesideLemmas.{sixteen, set_here, set_other, since_old, until_new}
 use Rattle.weak_maps.proofs.StayLemmas.{leaf_middle, looking_on, prefix_same, quiet_looks, respects_within}
+use Rattle.weak_maps.proofs.KeyLemmas.{KeyTells, key_shown, leaf_key}
 
 -- a register that shows a label holds it
 pub shown_label : (v : Value) (k : Label) → shown v ≡ reply.Block k → v ≡ Block k
@@ -75,23 +75,14 @@ module _ (z : Sizes) (limits : IsWithinLimits z) (root : Label) (d : ℕ) (old n
       (λ i other apart. set_other z d now x.between dst Nothing all.1 i apart ∙ keeps i other apart)
       reply.Empty (ap shown (set_here z d now x.between dst Nothing all.1 (sixteen z d now x.between (Forget dst) x.first x.empties limits) (omega (arith, few)))) None front since (prefix_trans front now x.between until grows) bound refl
 
-  -- what a key that was read is, where the leaf tells this
-  abbrev KeyTells : Option Value → Option Label → Type 0
-  KeyTells (Some datum) key = key ≡ Some k
-  KeyTells None key = key ≢ Some k
-
-  leaf_key : (g : Graph) (l : Label) (o : Option Value) → LeafTells g l k o → (key : Option Label) × (datum : Value) × (node_at g l ≡ Some (Ephe (key ∷ []) datum)) × KeyTells o key
-  leaf_key g l (Some datum) is = (Some k, datum, is, refl)
-  leaf_key g l None (key, datum, other, is) = (key, datum, is, other)
-
   -- a leaf that register 8 holds, once the answer's register has got its key
   pub key_read : (now n1 : List Entry) (r : Reply) (o : Option Value) (kr : ℕ) → PerformedBy z d now n1 (GetKey dst 8 0) r → IsPrefix n1 new → Looking z root d old now → held_by z d now kr ≡ Block k → Keeps now → HoldsLeaf z d now root k o 8
-      → (key : Option Label) × Looking z root d old n1 × Keeps n1 × (held_by z d n1 dst ≡ key_value key) × (r ≡ shown (key_value key)) × KeyTells o key × HoldsLeaf z d n1 root k o 8
+      → (key : Option Label) × Looking z root d old n1 × Keeps n1 × (held_by z d n1 dst ≡ key_value key) × (r ≡ shown (key_value key)) × KeyTells k o key × HoldsLeaf z d n1 root k o 8
   key_read now n1 r o kr p before looking key keeps x =
       let c = GetKey dst 8 0 in
       let later = up_to n1 before in
       let tells : LeafTells (graph_of z (now ++ p.between)) x.l k o = leaf_middle z root d old now n1 c r p later looking.grows k o kr x.l x.former x.p x.before x.there x.leaf key x.tells in
-      let n = leaf_key (graph_of z (now ++ p.between)) x.l o tells in
+      let n = leaf_key k (graph_of z (now ++ p.between)) x.l o tells in
       let all = get_key_step z d now n1 r dst 8 p x.l n.0 n.1 x.held n.2 in (
         n.0,
         looking_on z root d old now n1 c r p all.0 later looking,
@@ -121,16 +112,12 @@ module _ (z : Sizes) (limits : IsWithinLimits z) (root : Label) (d : ℕ) (old n
       let y = key_read now n1 r (Some datum) kr p before m.looking key (λ i a b. keeps i a) x in
       absurd (other (y.4 ∙ ap (λ (j : Option Label). shown (key_value j)) y.5))
 
-  key_shown : (key : Option Label) → shown (key_value key) ≡ reply.Block k → key ≡ Some k
-  key_shown None is = cc
-  key_shown (Some l) is = let same : l ≡ k = cc in ap Some same
-
   -- it is the leaf of the key
   pub returns_datum : (now n1 n2 : List Entry) (r r2 r3 : Reply) (o : Option Value) (kr : ℕ) → PerformedBy z d now n1 (GetKey dst 8 0) r → PerformedBy z d n1 n2 (GetData dst 8) r2 → PerformedBy z d n2 new (Forget 8) r3 → KeepsButEight z d old now → held_by z d now kr ≡ Block k
       → Meets z d old now root k o → HoldsLeaf z d now root k o 8 → r ≡ reply.Block k → GetReturns z d old new root dst (Block k) r2
   returns_datum now n1 n2 r r2 r3 None kr p p2 p3 keeps key m x is =
       let y = key_read now n1 r None kr p (prefix_trans n1 n2 new (grows_by z d n1 n2 (GetData dst 8) r2 p2) (grows_by z d n2 new (Forget 8) r3 p3)) m.looking key (λ i a b. keeps i a) x in
-      absurd (y.5 (key_shown y.0 (sym y.4 ∙ is)))
+      absurd (y.5 (key_shown k y.0 (sym y.4 ∙ is)))
   returns_datum now n1 n2 r r2 r3 (Some datum) kr p p2 p3 keeps key m x is =
       let c = GetData dst 8 in
       let last = grows_by z d n2 new (Forget 8) r3 p3 in

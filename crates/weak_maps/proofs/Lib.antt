@@ -4,6 +4,7 @@ pub mod MachineLemmas
 pub mod BesideLemmas
 pub mod EntryLemmas
 pub mod StayLemmas
+pub mod KeyLemmas
 pub mod DescendLemmas
 pub mod GetLemmas
 pub mod GuardLemmas

@@ -17,7 +17,7 @@ use Rattle.weak_maps.specs.Walks.{Descended, Emptied}
 use Rattle.weak_maps.specs.Fields.{Cleared, Finds}
 use Rattle.weak_maps.specs.Beside.{held_by}
 use Rattle.weak_maps.specs.declared.putting.Try.{Try}
-use Rattle.weak_maps.specs.Puts.{FindsField, KeepsLeaf, MakesLeaf}
+use Rattle.weak_maps.specs.Puts.{FillsLeaf, FindsField, KeepsLeaf, MakesLeaf}
 use Rattle.weak_maps.specs.Settles.{Settles, SettlesAlone}
 use Rattle.weak_maps.specs.Returns.{GetReturns, PutReturns, TakeLeaves, TakeReturns}
 
@@ -58,6 +58,9 @@ pub taken_at : (z : Sizes) (d : ℕ) (old new : List Entry) (root : Label) (v : 
 taken_at z d old new root v k r held x = subst (λ (w : Value). TakeReturns z d old new root w r) (sym held) x
 
 -- and with what a put is made of
+pub filled_at : (z now : Sizes) (d e : ℕ) (old first new : List Entry) (key item : ℕ) (a b : Bool) → now ≡ z → e ≡ d → first ≡ old → b ≡ a → FillsLeaf now e first new key item b → FillsLeaf z d old new key item a
+filled_at z now d e old first new key item a b sizes domain front is x = subst (λ (w : Sizes × ℕ × List Entry × Bool). FillsLeaf w.0 w.1 w.2 new key item w.3) (λ i. (sizes i, domain i, front i, is i)) x
+
 pub leaf_at : (z now : Sizes) (d e : ℕ) (old first new : List Entry) (kr item : ℕ) (a b : Bool) → now ≡ z → e ≡ d → first ≡ old → b ≡ a → MakesLeaf now e first new kr item b → MakesLeaf z d old new kr item a
 leaf_at z now d e old first new kr item a b sizes domain front is x = subst (λ (w : Sizes × ℕ × List Entry × Bool). MakesLeaf w.0 w.1 w.2 new kr item w.3) (λ i. (sizes i, domain i, front i, is i)) x
 

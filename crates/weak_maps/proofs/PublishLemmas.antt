@@ -47,7 +47,7 @@ use Rattle.weak_maps.proofs.CountLemmas.{not_refused}
 use Rattle.weak_maps.proofs.DescendLemmas.{plain_node}
 use Rattle.weak_maps.proofs.FreshLemmas.{held_not_outside, map_by, next_is, own_kept, own_middle, reads_on, thin_held, within_by}
 use Rattle.weak_maps.proofs.GetLemmas.{grows_by}
-use Rattle.weak_maps.proofs.StayLemmas.{respects_within, stays_middle, stays_same, stays_twice}
+use Rattle.weak_maps.proofs.StayLemmas.{respects_within, stays_middle, stays_same, stays_twice, field_as}
 
 -- a leaf of a key stays one over a history whose entries respect a map
 leaf_all : (z : Sizes) (root : Label) (now new : List Entry) → IsPrefix now new → AllRespect z root now new → (front : List Entry) (q : List ℕ) (l k : Label) → IsPrefix front now
@@ -202,26 +202,7 @@ module _ (z : Sizes) (limits : IsWithinLimits z) (root : Label) (d : ℕ) (first
       let here : state_of z new ≡ next (state_of z mid) (CommandOf d c false) = left_is z d now new c r p ∙ ap (λ b. next (state_of z mid) (CommandOf d c b)) none in record {
         on = record { looks = on.0; within = on.2 now; grows = grows; map = on.1 };
         at = (
-          record {
-            p = x.p;
-            left = x.left;
-            all = x.all;
-            way = x.way;
-            l = x.l;
-            held = keeps 8 ∙ x.held;
-            v = x.v;
-            holds = keeps 9 ∙ x.holds;
-            shows = x.shows;
-            since = x.since;
-            until = prefix_trans front now new x.until grows;
-            there = x.there;
-            fields = x.fields;
-            plain = x.plain;
-            was = x.was;
-            narrow = x.narrow;
-            map = x.map;
-            stays = stays_same z root front mid new lost.1.0 stay;
-          },
+          field_as z d first first front now new root k i rest s x (keeps 8) (keeps 9) x.since (prefix_trans front now new x.until grows) (stays_same z root front mid new lost.1.0 stay),
           refl,
         );
         leaf = own_kept z d root now new c r p 10 l (Ephe (Some k ∷ []) v) (Ephe (Some k ∷ []) v) leaf_mid (subst (λ (t : State). IsPrivate t d l) (sym here) private) (keeps 10) (ap (λ (m : Graph). node_at m l) lost.1.0 ∙ leaf_mid.node);

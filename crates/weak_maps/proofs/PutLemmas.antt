@@ -1,5 +1,5 @@
 -- What a put makes before it is published: the leaf.
-use Rattle.std.proofs.Common.{◌≡◌, ◌≢◌, ⊎_elim, ℕ, ◌<◌, true, false, eqb-true, List, [], ◌∷◌, ◌++◌, Some, None, ap, sym, ◌∙◌, arith}
+use Rattle.std.proofs.Common.{◌≡◌, ◌≢◌, ⊎_elim, ℕ, ◌<◌, true, false, eqb-true, List, [], ◌∷◌, ◌++◌, Some, None, ap, sym, ◌∙◌, arith, Bool, refl}
 use Rattle.model_core.specs.declared.label.Label.{Label}
 use Rattle.model_core.specs.declared.command.Command.{Command}
 use Rattle.model_core.specs.declared.command.Command.TheVariants.{Ephe as NewEphe, SetKey, SetData}
@@ -24,8 +24,8 @@ use Rattle.weak_laws.proofs.OfMaps.FrontLemmas.{prefix_same, prefix_trans}
 use Rattle.weak_laws.proofs.OfMaps.OwnLemmas.{looks_none, looks_twice}
 use Rattle.weak_laws.proofs.OfMaps.WithinLemmas.{within_earlier, within_none, within_twice}
 use Rattle.weak_maps.specs.Beside.{held_by}
-use Rattle.weak_maps.specs.Guards.{Guards}
-use Rattle.weak_maps.specs.Puts.{GoesOn, LeafMade, LeafRefused, OwnBlock}
+use Rattle.weak_maps.specs.Guards.{Guards, LeafGuards}
+use Rattle.weak_maps.specs.Puts.{FillsLeaf, GoesOn, LeafMade, LeafRefused, MakesLeaf, OwnBlock}
 use Rattle.weak_maps.proofs.BesideLemmas.{sixteen, set_here, set_other, same_held}
 use Rattle.weak_maps.proofs.FreshLemmas.{made_behind, makes_on, map_mid, not_held_before, own_born, own_middle, own_on, reads_on, thin_empty, writes_on}
 use Rattle.weak_maps.proofs.GetLemmas.{grows_by}
@@ -145,3 +145,15 @@ module _ (z : Sizes) (limits : IsWithinLimits z) (root : Label) (d : ℕ) where
         guards_twice z root d old old n0 n2 (prefix_trans n0 n1 n2 g1 g2) (guards_since z root d old old n0 (NewEphe 10 1) r0 p0 (prefix_same old) (λ e. (leaf_begun old n0 r0 map p0 other e).0.looks.respects))
         (guards_twice z root d old n0 n1 n2 g2 (guards_since z root d old n0 n1 (SetData 10 item) r1 p1 g_first (λ e. (filled e).looks.respects))
         (guards_since z root d old n1 n2 (SetKey 10 0 key) r2 p2 (prefix_trans old n0 n1 g_first g1) (λ e. (leaf_whole e).on.looks.respects)))
+
+-- a leaf that was made command by command, whatever map it is for
+pub leaf_told : (z : Sizes) → IsWithinLimits z → (d : ℕ) (old new : List Entry) (key item : ℕ) → key < 8 → item < 8 → (made : Bool) → FillsLeaf z d old new key item made → MakesLeaf z d old new key item made
+leaf_told z limits d old new key item few_key few_item true e root k held some map respects =
+    leaf_whole z limits root d old e.one e.two new e.made_reply e.data_reply e.key_reply key item few_key few_item k held some map e.makes e.sets e.keys e.granted respects
+leaf_told z limits d old new key item few_key few_item false p root k held some map respects = leaf_refused z limits root d old new reply.Full p refl map respects
+
+pub leaf_guarded : (z : Sizes) → IsWithinLimits z → (d : ℕ) (old new : List Entry) (key item : ℕ) → key < 8 → item < 8 → (made : Bool) → FillsLeaf z d old new key item made → LeafGuards z d old new key item
+leaf_guarded z limits d old new key item few_key few_item true e root k held some map =
+    leaf_guards z limits root d old e.one e.two new e.made_reply e.data_reply e.key_reply key item few_key few_item k held some map e.makes e.sets e.keys e.granted
+leaf_guarded z limits d old new key item few_key few_item false p root k held some map =
+    guards_since z root d old old new (NewEphe 10 1) reply.Full p (prefix_same old) (λ others. (leaf_refused z limits root d old new reply.Full p refl map others).on.looks.respects)

@@ -31,7 +31,7 @@ use Rattle.weak_laws.specs.Maps.Within.{IsMadeBehind, OwnWithin}
 use Rattle.weak_laws.proofs.OfMaps.MapLemmas.{map_stays, places_stay, plain_stays}
 use Rattle.weak_laws.proofs.OfMaps.WithinLemmas.{within_same}
 use Rattle.weak_maps.specs.Beside.{held_by}
-use Rattle.weak_maps.specs.Fields.{MapStays}
+use Rattle.weak_maps.specs.Fields.{AtField, MapStays}
 use Rattle.weak_maps.specs.Walks.{LeafTells, Looking, OwnQuiet}
 use Rattle.weak_maps.proofs.BesideLemmas.{since_old, until_new}
 use Rattle.weak_maps.proofs.EntryLemmas.{own_entry}
@@ -156,4 +156,28 @@ stays_same z root a b c same x = record {
   block = λ q u fields there plain.
       let one = x.block q u fields there plain in
       (subst (λ (g : Graph). at (inside g) q (Block root) ≡ Some u) (sym same) one.0, (one.1.0, subst (λ (g : Graph). inside g u ≡ Some one.1.0) (sym same) one.1.1));
+}
+
+-- a field at which a search stands, at a later front
+abbrev pub field_as : (z : Sizes) (d : ℕ) (first since_first front now new : List Entry) (root k : Label) (i rest : ℕ) (s : Reply) → AtField z d first front now root k i rest s → held_by z d new 8 ≡ held_by z d now 8 → held_by z d new 9 ≡ held_by z d now 9
+    → IsPrefix since_first front → IsPrefix front new → MapStays z root front new → AtField z d since_first front new root k i rest s
+field_as z d first since_first front now new root k i rest s x eight nine since until stays = record {
+  p = x.p;
+  left = x.left;
+  all = x.all;
+  way = x.way;
+  l = x.l;
+  held = eight ∙ x.held;
+  v = x.v;
+  holds = nine ∙ x.holds;
+  shows = x.shows;
+  since = since;
+  until = until;
+  there = x.there;
+  fields = x.fields;
+  plain = x.plain;
+  was = x.was;
+  narrow = x.narrow;
+  map = x.map;
+  stays = stays;
 }

@@ -1,6 +1,7 @@
 -- What a put needs and makes: where leaves stand, what a field binds at most, and a leaf in the making.
 use Rattle.std.specs.Prelude.{◌≡◌, ◌≢◌, ◌⊎◌, ◌<◌, ℕ, zero, suc, ◌+◌, ◌/◌, Bool, true, false, cond, List, [], ◌∷◌, ◌++◌, length, Option, Some, None, pos}
 use Rattle.model_core.specs.declared.label.Label.{Label}
+use Rattle.model_core.specs.declared.command.Command.TheVariants.{Ephe as NewEphe, SetData, SetKey}
 use Rattle.model_core.specs.declared.entry.Entry.{Entry}
 use Rattle.model_core.specs.declared.graph.Value.{Value}
 use Rattle.model_core.specs.declared.graph.Value.TheVariants.{Int, Block, Nothing}
@@ -15,7 +16,7 @@ use Rattle.weak_laws.specs.Tables.Thinning.{state_of}
 use Rattle.weak_laws.specs.Tables.Stages.{graph_of}
 use Rattle.weak_laws.specs.Maps.Tries.{at, inside, bound_by, is_leaf, node_width, root_width, way_to, IsMap}
 use Rattle.weak_laws.specs.Maps.Steps.{OthersLeave, OthersRespect}
-use Rattle.weak_laws.specs.Maps.Calls.{ChangesOne, Looks}
+use Rattle.weak_laws.specs.Maps.Calls.{ChangesOne, Looks, PerformedBy}
 use Rattle.weak_laws.specs.Maps.Private.{IsPrivate}
 use Rattle.weak_laws.specs.Maps.Within.{IsMadeBehind, OwnWithin}
 use Rattle.weak_maps.specs.Beside.{held_by}
@@ -46,6 +47,23 @@ pub record GoesOn (z : Sizes) (root : Label) (d : ℕ) (old now : List Entry) : 
   pub within : OwnWithin z root d old old now
   pub grows : IsPrefix old now
   pub map : IsMap (graph_of z now) root
+
+-- a leaf of the key in a register was made, with the datum in another
+pub record FilledLeaf (z : Sizes) (d : ℕ) (old new : List Entry) (key item : ℕ) : Type 0 where
+  pub one : List Entry
+  pub two : List Entry
+  pub made_reply : Reply
+  pub data_reply : Reply
+  pub key_reply : Reply
+  pub granted : made_reply ≢ reply.Full
+  pub makes : PerformedBy z d old one (NewEphe 10 1) made_reply
+  pub sets : PerformedBy z d one two (SetData 10 item) data_reply
+  pub keys : PerformedBy z d two new (SetKey 10 0 key) key_reply
+
+-- or its allocation was refused
+abbrev pub FillsLeaf : Sizes → ℕ → List Entry → List Entry → ℕ → ℕ → Bool → Type 0
+FillsLeaf z d old new key item true = FilledLeaf z d old new key item
+FillsLeaf z d old new key item false = PerformedBy z d old new (NewEphe 10 1) reply.Full
 
 -- a leaf of a key was made, and register 10 holds it
 pub record LeafMade (z : Sizes) (d : ℕ) (old now : List Entry) (root k : Label) (v : Value) : Type 0 where

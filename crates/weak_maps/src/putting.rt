@@ -7,9 +7,9 @@ ghost use Rattle.model_core.specs.History.{IsPrefix};
 ghost use Rattle.weak_laws.specs.Maps.Calls.{PerformedBy};
 ghost use Rattle.weak_laws.specs.Maps.Tries.{node_width};
 ghost use Rattle.weak_maps.specs.Beside.{refusals_by, writings_by};
-ghost use Rattle.weak_maps.specs.Puts.{MakesLeaf, MakesRoom, Publishes};
+ghost use Rattle.weak_maps.specs.Puts.{FillsLeaf, MakesRoom, Publishes};
 ghost use Rattle.weak_maps.specs.Crowds.{FullAt, PutCounts};
-ghost use Rattle.weak_maps.specs.Guards.{LeafGuards, PutGuards, RoomGuards, SettleGuards};
+ghost use Rattle.weak_maps.specs.Guards.{PutGuards, RoomGuards, SettleGuards};
 ghost use Rattle.weak_maps.specs.Returns.{FollowsAt, PutsAt};
 ghost use Rattle.weak_maps.specs.Settles.{rooms_after, Settles, SettlesAlone, TryRefuses};
 ghost use Rattle.weak_maps.specs.Frames.{Leaves, Makes, Puts, Stays};
@@ -37,16 +37,15 @@ pub enum Try {
     },
 }
 
-// Makes a leaf of the key in a register, with the datum in another, into register 10. Tells whether the allocation wasn't
-// refused.
-fn make_leaf<M: Machine, R: Wait>(m: &mut M, rt: &R, key: u8, item: u8) -> bool
+/// Makes a leaf of the key in a register, with the datum in another, into register 10. Tells whether the allocation wasn't
+/// refused.
+pub fn make_leaf<M: Machine, R: Wait>(m: &mut M, rt: &R, key: u8, item: u8) -> bool
     requires few { (key < 8) × (item < 8) }
     requires label { 1 ≤ M.labels_left m.old }
     requires room { 1 ≤ M.ephes_room m.old }
     ensures makes { Makes M.sizes M.domain M.heap M.front M.labels_left m.old m.new result }
     ensures room { M.ephes_room m.old ≤ M.ephes_room m.new + 1 }
-    ensures guards { LeafGuards (M.sizes m.old) (M.domain m.old) (M.front m.old) (M.front m.new) key item }
-    ensures made { MakesLeaf (M.sizes m.old) (M.domain m.old) (M.front m.old) (M.front m.new) key item result }
+    ensures made { FillsLeaf (M.sizes m.old) (M.domain m.old) (M.front m.old) (M.front m.new) key item result }
 {
     m.shows_legal();
     let made = perform(m, rt, Command::Ephe { dst: 10, keys: 1 });

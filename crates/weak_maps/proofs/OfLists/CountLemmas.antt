@@ -32,7 +32,7 @@ use Rattle.weak_maps.specs.Cleans.{width_of}
 use Rattle.weak_maps.specs.Commands.{IsBlock}
 use Rattle.weak_maps.specs.Walks.{OwnQuiet}
 use Rattle.weak_maps.proofs.BesideLemmas.{same_held, set_here, set_other, sixteen}
-use Rattle.weak_maps.proofs.CleanedLemmas.{wide_at}
+use Rattle.weak_maps.proofs.CleanedLemmas.{wide_at, positive}
 use Rattle.weak_laws.specs.Lists.Lists.{bindings_below}
 use Rattle.weak_laws.proofs.OfLists.ListLemmas.{below_end, below_plain, at_more}
 use Rattle.weak_laws.proofs.OfLists.StepLemmas.{thinned_below}
@@ -374,9 +374,5 @@ module _ (z : Sizes) (limits : IsWithinLimits z) (one : z.domains ≡ 1) where
             number = record { many = omega (arith, many, at_start, earlier); few = λ fits. let few = c.number.few fits in omega (arith, few, at_end) };
           }
         where
-          positive : (m : ℕ) → (m ≡ 0 → ⊥) → m - 1 + 1 ≡ m
-          positive zero some = absurd (some refl)
-          positive (suc m) some = omega arith
-
           one_more : (m : ℕ) → m + 1 ≡ suc m
           one_more m = omega arith

@@ -1,5 +1,5 @@
 -- The fields of a block are swept one after the other, and a whole map.
-use Rattle.std.proofs.Common.{◌≡◌, ◌≢◌, ◌⊎◌, inl, inr, ⊎_elim, ℕ, zero, suc, ◌+◌, ◌-◌, ◌<◌, ◌≤◌, Bool, true, false, List, [], ◌∷◌, ◌++◌, length, get_or, Some, None, refl, ap, sym, ◌∙◌, subst, arith, append_assoc, append-nil, length-append}
+use Rattle.std.proofs.Common.{◌≡◌, ◌≢◌, ◌⊎◌, inl, ⊎_elim, ℕ, ◌+◌, ◌-◌, ◌<◌, ◌≤◌, Bool, true, false, List, [], ◌∷◌, ◌++◌, length, get_or, Some, None, refl, ap, sym, ◌∙◌, subst, arith, append_assoc, append-nil, length-append}
 use Rattle.model_core.specs.declared.label.Label.{Label}
 use Rattle.model_core.specs.declared.entry.Entry.{Entry}
 use Rattle.model_core.specs.declared.graph.Value.{Value}
@@ -14,7 +14,7 @@ use Rattle.weak_laws.specs.Maps.Within.{StandsIn}
 use Rattle.weak_laws.proofs.OfMaps.FrontLemmas.{prefix_same, prefix_trans}
 use Rattle.weak_laws.proofs.OfMaps.WalkLemmas.{same_number}
 use Rattle.weak_maps.specs.Cleans.{EmptiedHigh, width_of}
-use Rattle.weak_maps.proofs.CleanedLemmas.{beyond, less_or, wide_at}
+use Rattle.weak_maps.proofs.CleanedLemmas.{beyond, less_or, wide_at, positive}
 use Rattle.weak_maps.proofs.DescendLemmas.{at_append, at_one}
 use Rattle.weak_maps.proofs.PlaceLemmas.{only_there, place_after}
 use Rattle.weak_maps.specs.Sweeps.Dead.{OthersBringNoDead, StandsDead, StoodDead}
@@ -25,13 +25,6 @@ use Rattle.weak_maps.proofs.OfSweeps.SpanLemmas.{Span, brings_within, clear_none
 -- others respect a part of a stretch
 respects_part : (z : Sizes) (root : Label) (d : ℕ) (old new a b : List Entry) → IsPrefix old a → IsPrefix b new → OthersRespect z root d old new → OthersRespect z root d a b
 respects_part z root d old new a b first last x f e since until other = x f e (prefix_trans old a f first since) (prefix_trans (f ++ e ∷ []) b new until last) other
-
-positive : (m : ℕ) → m ≢ 0 → m - 1 + 1 ≡ m
-positive m other = ⊎_elim (λ e. absurd (other e)) (λ more. omega (arith, more)) (none_or m)
-  where
-    none_or : (k : ℕ) → (k ≡ 0) ⊎ (1 ≤ k)
-    none_or zero = inl refl
-    none_or (suc k) = inr (omega arith)
 
 module _ (z : Sizes) (d : ℕ) where
   -- what was swept below a field of a block stays so

@@ -9,11 +9,11 @@ use Rattle.model_core.specs.History.{IsPrefix}
 use Rattle.weak_laws.proofs.OfMaps.FrontLemmas.{prefix_same, prefix_trans}
 use Rattle.weak_maps.specs.Beside.{held_by}
 use Rattle.weak_maps.proofs.GetLemmas.{shown_label}
-use Rattle.weak_maps.proofs.MachineLemmas.{shows_some}
+use Rattle.weak_maps.proofs.MachineLemmas.{filled_at, shows_some}
 use Rattle.weak_cache.specs.Calls.{PutsOrFull}
 use Rattle.weak_cache.proofs.CoreLemmas.{spares_within}
 use Rattle.weak_cache.proofs.EndLemmas.{begun, begun_low, low_beside}
-use Rattle.weak_cache.proofs.MachineLemmas.{begun_at, cleared_at, leaf_at, moves_at}
+use Rattle.weak_cache.proofs.MachineLemmas.{begun_at, cleared_at, moves_at}
 use Rattle.weak_cache.proofs.ReturnLemmas.{leaf_made, put_done, put_full, put_returns}
 use Rattle.weak_maps.proofs.FrameLemmas.{leaves_trans, makes_after, makes_is, makes_then, puts_made, puts_none, shows_none}
 use Rattle.weak_cache.proofs.cache.cache_put.Goals as goal
@@ -68,7 +68,7 @@ returns-clause-answer g c =
     let key : held_by z d old c.args.key ≡ Block k = shown_label _ _ (sym c.show.ensures.reply ∙ c.in-Block.is) in
     let some : v ≢ Nothing = shows_some z _ d _ old _ c.args.item c.show-value.result c.show.ensures.shows.stays.sizes c.show.ensures.shows.stays.domain c.show.ensures.shows.front c.show-value.ensures.reply (λ e. let clash : true ≡ false = sym (c.is_empty.ensures.1 e) ∙ c.if-is_empty.false in cc) in
     let b = begun_at z _ d _ old _ n0 c.args.cache c.args.key s0 o0 f0 c.begin.ensures.begun in
-    let made = leaf_at z _ d _ n0 n1 c.args.key c.args.item true _ s1 o1 c.if-not-make_leaf.false c.make_leaf.ensures.made in
+    let made = filled_at z _ d _ n0 _ n1 c.args.key c.args.item true _ s1 o1 refl c.if-not-make_leaf.false c.make_leaf.ensures.made in
     let moves = moves_at z _ d _ n1 n2 k c.args.size s2 o2 c.put_first.ensures.moved in
     let e = cleared_at z _ d _ n2 new s3 o3 c.clear-2.ensures.cleared in
     let g2 : IsPrefix n2 new = c.clear-2.ensures.leaves.grows in
@@ -104,7 +104,7 @@ returns-then-not-make_leaf-clause-answer g c =
     let key : held_by z d old c.args.key ≡ Block k = shown_label _ _ (sym c.show.ensures.reply ∙ c.in-Block.is) in
     let some : v ≢ Nothing = shows_some z _ d _ old _ c.args.item c.show-value.result c.show.ensures.shows.stays.sizes c.show.ensures.shows.stays.domain c.show.ensures.shows.front c.show-value.ensures.reply (λ e. let clash : true ≡ false = sym (c.is_empty.ensures.1 e) ∙ c.if-is_empty.false in cc) in
     let b = begun_at z _ d _ old _ n0 c.args.cache c.args.key s0 o0 f0 c.begin.ensures.begun in
-    let made = leaf_at z _ d _ n0 n1 c.args.key c.args.item false _ s1 o1 c.if-not-make_leaf.true c.make_leaf.ensures.made in
+    let made = filled_at z _ d _ n0 _ n1 c.args.key c.args.item false _ s1 o1 refl c.if-not-make_leaf.true c.make_leaf.ensures.made in
     let e = cleared_at z _ d _ n1 new s2 o2 c.clear.ensures.cleared in
     let g1 : IsPrefix n1 new = c.clear.ensures.leaves.grows in
     let g0 : IsPrefix n0 new = prefix_trans n0 n1 new c.make_leaf.ensures.makes.grows g1 in

@@ -17,15 +17,16 @@ use Rattle.weak_maps.specs.Crowds.{IsCrowded, made_by}
 use Rattle.weak_maps.specs.Settles.{AloneBy, rooms_after, TryRefuses}
 use Rattle.weak_maps.proofs.AloneLemmas.{deep_root, put_alone}
 use Rattle.weak_maps.proofs.CrowdLemmas.{full_crowded, put_counts, put_crowded}
-use Rattle.weak_maps.proofs.MachineLemmas.{alone_at, at_machine, cleared_at, field_at, keeps_at, leaf_at, put_at, settles_at, shows_some, same_count}
+use Rattle.weak_maps.proofs.MachineLemmas.{alone_at, at_machine, cleared_at, field_at, filled_at, keeps_at, put_at, settles_at, shows_some, same_count}
 use Rattle.weak_maps.proofs.FollowLemmas.{none_follows, put_follows}
 use Rattle.weak_maps.proofs.GetLemmas.{grows_by, shown_label}
-use Rattle.weak_maps.proofs.GuardLemmas.{guards_quiet, guards_same, guards_twice, leaf_guards_at, quiet_at, quiet_by, quiet_cleared, quiet_twice, settle_guards_at}
+use Rattle.weak_maps.proofs.GuardLemmas.{guards_quiet, guards_same, guards_twice, quiet_at, quiet_by, quiet_cleared, quiet_twice, settle_guards_at}
 use Rattle.weak_maps.proofs.SettleLemmas.{put_guards, put_placed, put_settles}
 use Rattle.weak_maps.proofs.StayLemmas.{respects_within}
 use Rattle.weak_maps.proofs.TakeLemmas.{cleared_grows}
 use Rattle.weak_maps.proofs.TryLemmas.{put_begins, put_ended}
 use Rattle.weak_maps.proofs.FrameLemmas.{leaves_trans, makes_after, makes_is, makes_then, puts_made, puts_none, shows_none, spends_none, stays_trans}
+use Rattle.weak_maps.proofs.PutLemmas.{leaf_guarded, leaf_told}
 use Rattle.weak_maps.proofs.putting.map_put.Goals as goal
 
 pub returns-then-not-make_leaf-clause-puts : goal.returns-then-not-make_leaf-clause-puts
@@ -86,7 +87,8 @@ returns-then-not-make_leaf-clause-answer g c =
     let f0 : g.M.Machine.front c.show-datum.new.self ≡ old = c.show-datum.ensures.shows.front ∙ c.show.ensures.shows.front in
     let key : held_by z d old c.args.key ≡ Block k = shown_label _ _ (sym c.show.ensures.reply ∙ c.in-Block.is) in
     let some : held_by z d old c.args.item ≢ Nothing = shows_some z _ d _ old _ c.args.item c.show-datum.result c.show.ensures.shows.stays.sizes c.show.ensures.shows.stays.domain c.show.ensures.shows.front c.show-datum.ensures.reply (λ e. let clash : true ≡ false = sym (c.is_empty.ensures.1 e) ∙ c.if-is_empty.false in cc) in
-    let makes = leaf_at z _ d _ old _ n0 c.args.key c.args.item false _ s0 o0 f0 c.if-not-make_leaf.true c.make_leaf.ensures.made in
+    let filled = filled_at z _ d _ old _ n0 c.args.key c.args.item false _ s0 o0 f0 c.if-not-make_leaf.true c.make_leaf.ensures.made in
+    let makes = leaf_told z c.shows_legal.ensures.limits d old n0 c.args.key c.args.item c.requires.few.1 c.requires.few.2 false filled in
     let x = cleared_at z _ d _ n0 _ (c.make_leaf.ensures.makes.stays.sizes ∙ s0) (c.make_leaf.ensures.makes.stays.domain ∙ o0) c.clear.ensures.cleared in
     λ root held map placed respects.
     let y = makes root k key some map (respects_within z root d old new old n0 (prefix_same old) (cleared_grows z d n0 new x) respects) in
@@ -113,7 +115,8 @@ tries-init g c =
     let o2 : g.M.Machine.domain c.perform-root.new.m ≡ d = c.perform-root.ensures.spends.stays.domain ∙ o1 in
     let key : held_by z d old c.args.key ≡ Block k = shown_label _ _ (sym c.show.ensures.reply ∙ c.in-Block.is) in
     let some : v ≢ Nothing = shows_some z _ d _ old _ c.args.item c.show-datum.result c.show.ensures.shows.stays.sizes c.show.ensures.shows.stays.domain c.show.ensures.shows.front c.show-datum.ensures.reply (λ e. let clash : true ≡ false = sym (c.is_empty.ensures.1 e) ∙ c.if-is_empty.false in cc) in
-    let makes = leaf_at z _ d _ old _ n0 c.args.key c.args.item true _ s0 o0 f0 c.if-not-make_leaf.false c.make_leaf.ensures.made in
+    let filled = filled_at z _ d _ old _ n0 c.args.key c.args.item true _ s0 o0 f0 c.if-not-make_leaf.false c.make_leaf.ensures.made in
+    let makes = leaf_told z c.shows_legal.ensures.limits d old n0 c.args.key c.args.item c.requires.few.1 c.requires.few.2 true filled in
     let same : c.number_of-number.result ≡ number_of z.domains k = c.number_of-number.ensures.number ∙ ap (λ (n : ℕ). number_of n k) (c.domains.ensures ∙ ap (λ (y : Sizes). y.domains) s1) in
     let p1 = at_machine z _ d _ n0 n1 _ _ s1 o1 c.perform-root.ensures.performed in
     let q2 = at_machine z _ d _ n1 new _ _ s2 o2 c.read_again-at.ensures.read in
@@ -138,7 +141,7 @@ tries-init g c =
       refused = omega (arith, refused);
       written = whole.written;
       guards = λ root held map placed.
-          guards_twice z root d old old n0 new later (leaf_guards_at z _ d _ old _ n0 c.args.key c.args.item s0 o0 f0 c.make_leaf.ensures.guards root k key some map)
+          guards_twice z root d old old n0 new later (leaf_guarded z c.shows_legal.ensures.limits d old n0 c.args.key c.args.item c.requires.few.1 c.requires.few.2 true filled root k key some map)
           (guards_quiet z root d old n0 new (quiet_twice z d n0 n1 new c.read_again-at.ensures.leaves.grows (quiet_by z d n0 n1 _ _ p1 (λ s. refl) refl) (quiet_by z d n1 new _ _ q2 (λ s. refl) refl)));
       walk = λ root held map placed respects.
           subst (λ (w : ℕ × ℕ). Putting z d old new root k v w.0 w.1 c.read_again-at.result 0) (λ i. (sym first i, sym left i))
@@ -291,9 +294,10 @@ returns-then-not-make_leaf-clause-guards g c =
     let f0 : g.M.Machine.front c.show-datum.new.self ≡ old = c.show-datum.ensures.shows.front ∙ c.show.ensures.shows.front in
     let key : held_by z d old c.args.key ≡ Block k = shown_label _ _ (sym c.show.ensures.reply ∙ c.in-Block.is) in
     let some : held_by z d old c.args.item ≢ Nothing = shows_some z _ d _ old _ c.args.item c.show-datum.result c.show.ensures.shows.stays.sizes c.show.ensures.shows.stays.domain c.show.ensures.shows.front c.show-datum.ensures.reply (λ e. let clash : true ≡ false = sym (c.is_empty.ensures.1 e) ∙ c.if-is_empty.false in cc) in
+    let filled = filled_at z _ d _ old _ n0 c.args.key c.args.item false _ s0 o0 f0 c.if-not-make_leaf.true c.make_leaf.ensures.made in
     let x = cleared_at z _ d _ n0 new (c.make_leaf.ensures.makes.stays.sizes ∙ s0) (c.make_leaf.ensures.makes.stays.domain ∙ o0) c.clear.ensures.cleared in
     λ root held map placed.
-    guards_twice z root d old old n0 new c.clear.ensures.leaves.grows (leaf_guards_at z _ d _ old _ n0 c.args.key c.args.item s0 o0 f0 c.make_leaf.ensures.guards root k key some map) (guards_quiet z root d old n0 new (quiet_cleared z d n0 new x))
+    guards_twice z root d old old n0 new c.clear.ensures.leaves.grows (leaf_guarded z c.shows_legal.ensures.limits d old n0 c.args.key c.args.item c.requires.few.1 c.requires.few.2 false filled root k key some map) (guards_quiet z root d old n0 new (quiet_cleared z d n0 new x))
 
 pub returns-in-Over-clause-guards : goal.returns-in-Over-clause-guards
 returns-in-Over-clause-guards g c =
