@@ -2,7 +2,7 @@
 use Rattle.std.proofs.Common.{◌≡◌, ◌∙◌, Bool, true, false, IsTrue, List, [], ◌∷◌, ◌++◌, refl, ap, sym, append_assoc}
 use Rattle.model_core.specs.declared.command.Command as declared_command
 use Rattle.model_core.specs.declared.entry.Entry.{Entry}
-use Rattle.model_core.specs.declared.entry.Entry.TheVariants.{Command, End, Cut, Queue, Seal, Wipe, Last as LastOf, Collected, Done as DoneOf, Ran}
+use Rattle.model_core.specs.declared.entry.Entry.TheVariants.{Command}
 use Rattle.model_core.specs.declared.reply.Reply.{Reply}
 use Rattle.model_core.specs.declared.state.Pending.{Pending}
 use Rattle.model_core.specs.declared.state.Sizes.{Sizes}
@@ -14,6 +14,7 @@ use Rattle.model_core.specs.Registrations.{all_registered, registered, registere
 use Rattle.model_core.proofs.Reach.ReachLemmas.{and_left, and_right}
 use Rattle.weak_laws.specs.Tables.Thinning.{AllCollector, is_collector}
 use Rattle.weak_laws.specs.Tables.Performing.{Performed}
+use Rattle.weak_laws.proofs.OfTables.CollectorLemmas.{collector_cases}
 
 registered-append : (s : State) (h k : List Entry) → all_registered 0 s (h ++ k) ≡ all_registered 0 s h ++ all_registered 0 (state_after s h) k
 registered-append s [] k = refl
@@ -22,19 +23,9 @@ registered-append s (e ∷ h) k = ap (λ (rs : List Pending). registered 0 s e +
 -- the collector registers none
 collector_none : (s : State) (h : List Entry) → AllCollector h → all_registered 0 s h ≡ []
 collector_none s [] mine = refl
-collector_none s (e ∷ h) mine = (λ i. one e (and_left (is_collector e) _ mine) i ++ collector_none (next s e) h (and_right (is_collector e) _ mine) i)
-  where
-    one : (e : Entry) → IsTrue (is_collector e) → registered 0 s e ≡ []
-    one (Command d c full) is = cc
-    one (End d) is = cc
-    one (Ran d) is = cc
-    one Cut is = refl
-    one (Queue d places) is = refl
-    one Seal is = refl
-    one (Wipe l keys) is = refl
-    one (LastOf d place) is = refl
-    one Collected is = refl
-    one DoneOf is = refl
+collector_none s (e ∷ h) mine =
+    let here : registered 0 s e ≡ [] = collector_cases (λ (e : Entry). registered 0 s e ≡ []) refl (λ d places. refl) refl (λ l keys. refl) (λ d place. refl) refl refl e (and_left (is_collector e) _ mine) in
+    λ i. here i ++ collector_none (next s e) h (and_right (is_collector e) _ mine) i
 
 -- so there are none after a stretch of it
 pub none_between : (z : Sizes) (old between : List Entry) → AllCollector between → all_registered 0 (opening z) old ≡ [] → all_registered 0 (opening z) (old ++ between) ≡ []
