@@ -14,7 +14,7 @@ use Rattle.model_core.proofs.Graphs.GraphLemmas.{same_label-true, same_label_ref
 use Rattle.model_core.proofs.Reach.ReachLemmas.{and_left, and_right, has-append_cases, has-append_left, has-append_right, or_cases, or_left, or_right}
 use Rattle.weak_laws.specs.Tables.Structures.{Binding, Cell, binding_of, bindings, cell_labels, chain_bindings, is_weak, key_of, slot_keys, table_labels, IsTable, IsWeakArray, Links}
 use Rattle.weak_tables.specs.Held.{AllHave, Has, IsBare, IsOwned, IsTidy}
-use Rattle.weak_tables.proofs.SlotLemmas.{weak_parts}
+use Rattle.weak_laws.proofs.OfTables.ChangeLemmas.{weak_parts}
 use Rattle.table_text.specs.Machine.Machine.{Holds}
 use Rattle.table_run.specs.Standing.{AreInts, key_node}
 

@@ -13,14 +13,7 @@ use Rattle.model_core.proofs.Reach.ReachLemmas.{or_left, or_right, true_or_false
 use Rattle.weak_laws.specs.Tables.Structures.{Cell, IsTable, cell_labels, table_labels}
 use Rattle.weak_laws.specs.Tables.Thinning.{state_of}
 use Rattle.weak_laws.proofs.OfTables.GrowLemmas.{table_there}
-use Rattle.weak_laws.proofs.OfTables.SizeLemmas.{blocks_counted}
-
-label_there : (g : Graph) (l : Label) (n : Node) → node_at g l ≡ Some n → IsTrue (has_label (labels g) l)
-label_there [] l n at = cc
-label_there (e ∷ g) l n at = ⊎_elim
-    (λ (here : IsTrue (same_label e.0 l)). or_left (same_label e.0 l) _ here)
-    (λ (other : same_label e.0 l ≡ false). or_right (same_label e.0 l) _ (label_there g l n (subst (λ (b : Bool). cond b (Some e.1) (node_at g l) ≡ Some n) other at)))
-    (true_or_false (same_label e.0 l))
+use Rattle.weak_laws.proofs.OfTables.SizeLemmas.{blocks_counted, label_there}
 
 -- each cell has two blocks
 two_each : (cells : List Cell) → length cells + length cells ≤ length (cell_labels cells)

@@ -2,7 +2,7 @@
 use Rattle.std.proofs.Common.{◌≡◌, ◌∙◌, Bool, true, false, IsTrue, List, [], ◌∷◌, ◌++◌, refl, ap, sym, append_assoc}
 use Rattle.model_core.specs.declared.command.Command as declared_command
 use Rattle.model_core.specs.declared.entry.Entry.{Entry}
-use Rattle.model_core.specs.declared.entry.Entry.TheVariants.{Command, End, Cut, Queue, Seal, Wipe, Last as LastOf, Collected, Done as DoneOf, Ran}
+use Rattle.model_core.specs.declared.entry.Entry.TheVariants.{Command}
 use Rattle.model_core.specs.declared.reply.Reply.{Reply}
 use Rattle.model_core.specs.declared.state.Pending.{Pending}
 use Rattle.model_core.specs.declared.state.Sizes.{Sizes}
@@ -23,10 +23,9 @@ registered-append s (e ∷ h) k = ap (λ (rs : List Pending). registered 0 s e +
 -- the collector registers none
 collector_none : (s : State) (h : List Entry) → AllCollector h → all_registered 0 s h ≡ []
 collector_none s [] mine = refl
-collector_none s (e ∷ h) mine = (λ i. one e (and_left (is_collector e) _ mine) i ++ collector_none (next s e) h (and_right (is_collector e) _ mine) i)
-  where
-    one : (e : Entry) → IsTrue (is_collector e) → registered 0 s e ≡ []
-    one = collector_cases (λ e. registered 0 s e ≡ []) refl (λ d places. refl) refl (λ l keys. refl) (λ d place. refl) refl refl
+collector_none s (e ∷ h) mine =
+    let here : registered 0 s e ≡ [] = collector_cases (λ (e : Entry). registered 0 s e ≡ []) refl (λ d places. refl) refl (λ l keys. refl) (λ d place. refl) refl refl e (and_left (is_collector e) _ mine) in
+    λ i. here i ++ collector_none (next s e) h (and_right (is_collector e) _ mine) i
 
 -- so there are none after a stretch of it
 pub none_between : (z : Sizes) (old between : List Entry) → AllCollector between → all_registered 0 (opening z) old ≡ [] → all_registered 0 (opening z) (old ++ between) ≡ []

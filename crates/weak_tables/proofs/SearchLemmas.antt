@@ -23,6 +23,7 @@ use Rattle.weak_laws.specs.Tables.Thinning.{Thin, WasOutside, Went}
 use Rattle.weak_laws.specs.Tables.Performing.{Performed, After, registers_of}
 use Rattle.weak_laws.specs.Tables.Stages.{Searching, graph_of, held_in}
 use Rattle.model_core.proofs.Reach.ReachLemmas.{and_left, and_right, and_both}
+use Rattle.weak_laws.proofs.OfTables.ChangeLemmas.{weak_parts}
 use Rattle.weak_laws.proofs.OfTables.BindingLemmas.{thinned_same}
 use Rattle.weak_laws.proofs.OfTables.CellLemmas.{links_behind}
 use Rattle.weak_laws.proofs.OfTables.LinkLemmas.{empty_stays}
@@ -205,16 +206,8 @@ module _ (z : Sizes) (limits : IsWithinLimits z) (root : Label) (chains : List (
     key_f : held_in z f kr ≡ Block k
     key_f = below_eight z first f kr few_key keeps_f ∙ held
 
-    weak_is : (o : Option Node) → IsTrue (is_weak o) → (key : Option Label) × (datum : Value) × (o ≡ Some (Ephe (key ∷ []) datum))
-    weak_is None w = cc
-    weak_is (Some (Plain tag fields)) w = cc
-    weak_is (Some (Raw tag fields)) w = cc
-    weak_is (Some (Ephe [] datum)) w = cc
-    weak_is (Some (Ephe (key ∷ []) datum)) w = (key, datum, refl)
-    weak_is (Some (Ephe (key ∷ other ∷ keys) datum)) w = cc
-
     ephemeron : (key : Option Label) × (datum : Value) × (node_at (graph_of z f) cell.0.ephe ≡ Some (Ephe (key ∷ []) datum))
-    ephemeron = weak_is _ (cell_here z limits root chains k kr i f f r m.done cell.0 cell.1 searching_f).1.weak
+    ephemeron = weak_parts _ (cell_here z limits root chains k kr i f f r m.done cell.0 cell.1 searching_f).1.weak
 
     got : (key : Option Label) × (datum : Value) × After z f g [] (set (registers_of z f) 10 (key_value key)) × (s ≡ shown (key_value key)) × (node_at (graph_of z g) cell.0.ephe ≡ Some (Ephe (key ∷ []) datum))
     got = let t = get_key_step z limits f g s 10 cell.0.ephe ephemeron.0 ephemeron.1 ephe_f ephemeron.2 10 q in (t.0.key_now, t.0.datum_now, t.1, t.2, t.3)
@@ -278,7 +271,7 @@ module _ (z : Sizes) (limits : IsWithinLimits z) (root : Label) (chains : List (
     first_cell = (links_behind (graph_of z first) _ m.done (cell.0 ∷ cell.1) (subst (Links (graph_of z first) (get_or table.fields i Nothing)) searching.split (table.linked i searching.below))).1
 
     had_key : (key : Label) → got.0 ≡ Some key → IsTrue (has_key (graph_of z first) cell.0)
-    had_key key is = let w = weak_is _ first_cell.1.weak in go w.0 w.1 w.2 (reads_g.goes.changes cell.0.ephe _ w.2 refl)
+    had_key key is = let w = weak_parts _ first_cell.1.weak in go w.0 w.1 w.2 (reads_g.goes.changes cell.0.ephe _ w.2 refl)
       where
         go : (was : Option Label) (datum : Value) → node_at (graph_of z first) cell.0.ephe ≡ Some (Ephe (was ∷ []) datum) → Thin (WasOutside z first g) (Ephe (was ∷ []) datum) (node_at (graph_of z g) cell.0.ephe) → IsTrue (has_key (graph_of z first) cell.0)
         go (Some l) datum at thin = subst (λ (o : Option Node). IsTrue (is_some (key_of o))) (sym at) refl

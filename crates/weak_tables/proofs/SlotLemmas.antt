@@ -20,7 +20,7 @@ use Rattle.weak_laws.specs.Tables.Structures.{is_weak, key_of, IsWeakArray, slot
 use Rattle.weak_laws.specs.Tables.Thinning.{EmptiedBy, Thin, WasOutside, Went}
 use Rattle.weak_laws.specs.Tables.Performing.{Performed, After, registers_of}
 use Rattle.weak_laws.specs.Tables.Stages.{Goes, graph_of, held_in}
-use Rattle.weak_laws.proofs.OfTables.ChangeLemmas.{array_kept}
+use Rattle.weak_laws.proofs.OfTables.ChangeLemmas.{array_kept, weak_parts}
 use Rattle.weak_laws.proofs.OfTables.LawLemmas.{keys_emptied}
 use Rattle.weak_laws.proofs.OfTables.ArrayLemmas.{slot_field, slot_weak, slot_there, slots_fields, array_changed, keys_changed, emptied_more, emptied_set, emptied_twice}
 use Rattle.weak_laws.proofs.OfTables.StepLemmas.{load_step, load_past_step, get_key_step, set_key_step, set_key_type_step}
@@ -68,14 +68,6 @@ slot_key : (g : Graph) (slots : List Label) (i : ℕ) (e : Label) → slice_get 
 slot_key g [] i e at = cc
 slot_key g (x ∷ slots) zero e at = let same : x ≡ e = cc in ap (λ (l : Label). Some (key_of (node_at g l))) same
 slot_key g (x ∷ slots) (suc i) e at = slot_key g slots i e at
-
-pub weak_parts : (o : Option Node) → IsTrue (is_weak o) → (key : Option Label) × (datum : Value) × (o ≡ Some (Ephe (key ∷ []) datum))
-weak_parts None w = cc
-weak_parts (Some (Plain tag fields)) w = cc
-weak_parts (Some (Raw tag fields)) w = cc
-weak_parts (Some (Ephe [] datum)) w = cc
-weak_parts (Some (Ephe (key ∷ []) datum)) w = (key, datum, refl)
-weak_parts (Some (Ephe (key ∷ other ∷ keys) datum)) w = cc
 
 -- a slot's key stays where it isn't one that may be taken
 pub emptied_stays : (P : Label → Type 0) (i : ℕ) (a b : List (Option Label)) (key : Option Label) → EmptiedBy P a b → ((k : Label) → key ≡ Some k → P k → ⊥) → slice_get a i ≡ Some key → slice_get b i ≡ Some key
