@@ -83,18 +83,6 @@ module _ {M H : Type 0} {z : M → Sizes} {d : M → ℕ} {of : M → H} {front 
   pub leaves_reads : {a b : M} {n : ℕ} → Leaves z d of front labels room a b → Reads z d of front labels room a b n
   leaves_reads x = let w = x.written in record { stays = x.stays; grows = x.grows; labels = x.labels; room = x.room; given = x.given; written = omega (arith, w) }
 
-  pub reads_after : {a b c : M} {n : ℕ} → Leaves z d of front labels room a b → Reads z d of front labels room b c n → Reads z d of front labels room a c n
-  reads_after {a = a} {b = b} {c = c} {n = n} x y =
-      let w = x.written in
-      let v = subst (λ (e : ℕ). writings_by e (front c) ≤ writings_by e (front b) + n) x.stays.domain y.written in record {
-        stays = stays_trans x.stays y.stays;
-        grows = prefix_trans (front a) (front b) (front c) x.grows y.grows;
-        labels = y.labels ∙ x.labels;
-        room = omega (arith, x.room, y.room);
-        given = subst (λ (e : ℕ). refusals_by e (front c) ≡ refusals_by e (front b)) x.stays.domain y.given ∙ x.given;
-        written = omega (arith, v, w);
-      }
-
   pub reads_twice : {a b c : M} {m n : ℕ} → Reads z d of front labels room a b m → Reads z d of front labels room b c n → Reads z d of front labels room a c (m + n)
   reads_twice {a = a} {b = b} {c = c} {n = n} x y =
       let w = x.written in
@@ -109,6 +97,9 @@ module _ {M H : Type 0} {z : M → Sizes} {d : M → ℕ} {of : M → H} {front 
 
   pub reads_most : {a b : M} {m n : ℕ} → m ≤ n → Reads z d of front labels room a b m → Reads z d of front labels room a b n
   reads_most below x = let w = x.written in record { stays = x.stays; grows = x.grows; labels = x.labels; room = x.room; given = x.given; written = omega (arith, w, below) }
+
+  pub reads_after : {a b c : M} {n : ℕ} → Leaves z d of front labels room a b → Reads z d of front labels room b c n → Reads z d of front labels room a c n
+  reads_after x y = reads_most (omega arith) (reads_twice (leaves_reads {n = 0} x) y)
 
   pub reads_then : {a b c : M} {n : ℕ} → Reads z d of front labels room a b n → Leaves z d of front labels room b c → Reads z d of front labels room a c n
   reads_then {n = n} x y = reads_most (omega arith) (reads_twice x (leaves_reads {n = 0} y))
