@@ -56,6 +56,6 @@ pub fn replay_runs(
     let room = Vec::with_capacity(alloc, runs.len())?;
     let gathered = Gathered::gather(alloc, heap, runs)?;
     gathered.shows_whole();
-    gathered.stands();
+    gathered.shows_shared();
     Ok(drive(gathered, room, items))
 }

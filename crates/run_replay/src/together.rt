@@ -17,7 +17,7 @@ impl TogetherRuns for Gathered {
 
     ghost spare = { λ g. spare_of g };
 
-    fn stands(&self) {
+    fn shows_shared(&self) {
         let _limits = self.heap.config();
     }
 

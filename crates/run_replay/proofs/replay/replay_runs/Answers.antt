@@ -21,4 +21,4 @@ drive-requires-clause-fresh c =
 pub drive-requires-clause-arrivals : goal.drive-requires-clause-arrivals
 drive-requires-clause-arrivals c =
     subst (λ (v : GatheredView). most_in_replay (seen_in v) c.args.items.now < spare_of v) (sym c.in_ok-gathered.ensures)
-    (begins_room c.args.heap c.args.runs.items c.args.items.now c.requires.may (subst IsGathered c.in_ok-gathered.ensures c.shows_whole.ensures) (subst (λ (v : GatheredView). IsWithinLimits (sizes_in v.heap.config)) c.in_ok-gathered.ensures c.stands.ensures.stands.limits) c.requires.few)
+    (begins_room c.args.heap c.args.runs.items c.args.items.now c.requires.may (subst IsGathered c.in_ok-gathered.ensures c.shows_whole.ensures) (subst (λ (v : GatheredView). IsWithinLimits (sizes_in v.heap.config)) c.in_ok-gathered.ensures c.shows_shared.ensures.stands.limits) c.requires.few)

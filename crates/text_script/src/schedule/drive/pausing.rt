@@ -30,12 +30,12 @@ pub(crate) fn pause<T: TogetherRuns>(runs: &mut T, complete: bool)
     ensures spends { T.spare runs.old ≤ T.spare runs.new + most_in_pause }
 {
     runs.halt_all(complete);
-    runs.stands();
+    runs.shows_shared();
     'passes: loop {
         if all_run(runs) {
             return;
         }
         runs.pass_next();
-        runs.stands();
+        runs.shows_shared();
     }
 }

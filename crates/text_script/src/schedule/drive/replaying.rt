@@ -40,12 +40,12 @@ fn collect<T: TogetherRuns>(runs: &mut T)
     ensures taken { (p : Played) → AllFollow (T.seen runs.old) (T.shares runs.old) p → AllFollow (T.seen runs.new) (T.shares runs.new) (take_item p CollectItem) }
     ensures spends { T.spare runs.old ≤ T.spare runs.new + most_in_pause }
 {
-    runs.stands();
+    runs.shows_shared();
     if all_ended(runs) {
         return;
     }
     pause(runs, true);
-    runs.stands();
+    runs.shows_shared();
 }
 
 // One item of a schedule.
@@ -97,7 +97,7 @@ fn take_round<T: TogetherRuns>(runs: &mut T)
     ensures taken { (p : Played) → IsPlayed (T.seen runs.old).sizes p → AllFollow (T.seen runs.old) (T.shares runs.old) p → AllFollow (T.seen runs.new) (T.shares runs.new) (take_round p) }
     ensures spends { T.spare runs.old ≤ T.spare runs.new + most_in_round (length (T.seen runs.old).runs) }
 {
-    runs.stands();
+    runs.shows_shared();
     'domains: for at in 0..runs.count() {
         take_turn(runs, at);
     }

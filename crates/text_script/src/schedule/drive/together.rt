@@ -33,7 +33,7 @@ pub trait TogetherRuns {
 
     /// Nothing changes. The numbers are within their limits, and there is a run for each domain. Each history that
     /// they may share is legal, and the replies of a run are those of its domain there.
-    fn stands(&self)
+    fn shows_shared(&self)
         ensures stands { Stands (seen self.now) }
         ensures shared { (h : List Entry) → shares self.now h → IsShared (seen self.now) h };
 

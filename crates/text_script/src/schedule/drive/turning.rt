@@ -23,7 +23,7 @@ fn pause_for<T: TogetherRuns>(runs: &mut T, at: usize, complete: bool)
     ensures rested { RestedAt (T.seen runs.new) at }
 {
     pause(runs, complete);
-    runs.stands();
+    runs.shows_shared();
 }
 
 // One step of a turn, with the pause that it asks for. Answers whether the next command or the end was made.
@@ -40,7 +40,7 @@ fn step_on<T: TogetherRuns>(runs: &mut T, at: usize) -> bool
     ensures spends_last { result ≡ true → T.spare runs.old ≤ T.spare runs.new + most_in_pause }
 {
     let stepped = runs.turn(at);
-    runs.stands();
+    runs.shows_shared();
     match stepped {
         Stepped::Ran => false,
         Stepped::Made => true,
@@ -64,7 +64,7 @@ pub(crate) fn take_turn<T: TogetherRuns>(runs: &mut T, at: usize)
     ensures taken { (p : Played) → AllFollow (T.seen runs.old) (T.shares runs.old) p → AllFollow (T.seen runs.new) (T.shares runs.new) (take_turn p at) }
     ensures spends { T.spare runs.old ≤ T.spare runs.new + most_in_turn }
 {
-    runs.stands();
+    runs.shows_shared();
     if runs.has_ended(at) {
         return;
     }
@@ -72,6 +72,6 @@ pub(crate) fn take_turn<T: TogetherRuns>(runs: &mut T, at: usize)
         if step_on(runs, at) {
             return;
         }
-        runs.stands();
+        runs.shows_shared();
     }
 }

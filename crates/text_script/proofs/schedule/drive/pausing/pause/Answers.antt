@@ -4,8 +4,8 @@ use Rattle.text_script.proofs.schedule.drive.pausing.pause.Goals as goal
 
 pub passes-init : goal.passes-init
 passes-init g c = record {
-  paused = pause_begins (g.T.TogetherRuns.shares c.args.runs.now) (g.T.TogetherRuns.shares c.halt_all.new.self) _ _ c.args.complete c.halt_all.ensures.on c.halt_all.ensures.seen (λ h new. (c.stands.ensures.shared h new).legal);
-  stands = c.stands.ensures.stands;
+  paused = pause_begins (g.T.TogetherRuns.shares c.args.runs.now) (g.T.TogetherRuns.shares c.halt_all.new.self) _ _ c.args.complete c.halt_all.ensures.on c.halt_all.ensures.seen (λ h new. (c.shows_shared.ensures.shared h new).legal);
+  stands = c.shows_shared.ensures.stands;
   room = let before = c.requires.room in let spends = c.halt_all.ensures.spends in omega (arith, before, spends);
   spends = c.halt_all.ensures.spends;
 }
@@ -14,8 +14,8 @@ pub passes-preserved : goal.passes-preserved
 passes-preserved g c =
     let step = c.pass_next.ensures.passed in
     record {
-      paused = pause_passes (g.T.TogetherRuns.shares c.args.runs.now) (g.T.TogetherRuns.shares c.passes.runs) (g.T.TogetherRuns.shares c.pass_next.new.self) _ _ _ c.args.complete step.0 c.passes.invariant.paused step.1 (λ h new. (c.stands-in-passes.ensures.shared h new).legal);
-      stands = c.stands-in-passes.ensures.stands;
+      paused = pause_passes (g.T.TogetherRuns.shares c.args.runs.now) (g.T.TogetherRuns.shares c.passes.runs) (g.T.TogetherRuns.shares c.pass_next.new.self) _ _ _ c.args.complete step.0 c.passes.invariant.paused step.1 (λ h new. (c.shows_shared-in-passes.ensures.shared h new).legal);
+      stands = c.shows_shared-in-passes.ensures.stands;
       room = let before = c.passes.invariant.room in let spares = c.pass_next.ensures.spares in omega (arith, before, spares);
       spends = let before = c.passes.invariant.spends in let spares = c.pass_next.ensures.spares in omega (arith, before, spares);
     }

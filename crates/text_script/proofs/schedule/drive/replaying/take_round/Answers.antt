@@ -43,7 +43,7 @@ returns-clause-spends g c =
 
 pub returns-clause-taken : goal.returns-clause-taken
 returns-clause-taken g c p played follow =
-    let all : c.domains.at ≡ (g.T.TogetherRuns.seen c.args.runs.now).sizes.domains = search (rules, c.stands.ensures.stands.count, c.count-at-end.ensures) in
+    let all : c.domains.at ≡ (g.T.TogetherRuns.seen c.args.runs.now).sizes.domains = search (rules, c.shows_shared.ensures.stands.count, c.count-at-end.ensures) in
     subst (λ q. AllFollow (g.T.TogetherRuns.seen c.domains.runs) (g.T.TogetherRuns.shares c.domains.runs) q)
     (ap (λ n. fold take_turn p (range_with_len 0 n)) all ∙ round_is (g.T.TogetherRuns.seen c.args.runs.now).sizes p played)
     (c.domains.invariant.taken p follow)

@@ -5,36 +5,36 @@ use Rattle.text_script.proofs.schedule.drive.turning.step_on.Goals as goal
 
 pub pause_for-requires-clause-calm : goal.pause_for-requires-clause-calm
 pause_for-requires-clause-calm g c =
-    let first = turned_needs (g.T.TogetherRuns.shares c.args.runs.now) (g.T.TogetherRuns.shares c.turn-stepped.new.self) _ _ c.args.at c.requires.calm c.requires.goes_on c.stands.ensures.shared c.in-Needs.complete c.in-Needs.ensures.turned in
+    let first = turned_needs (g.T.TogetherRuns.shares c.args.runs.now) (g.T.TogetherRuns.shares c.turn-stepped.new.self) _ _ c.args.at c.requires.calm c.requires.goes_on c.shows_shared.ensures.shared c.in-Needs.complete c.in-Needs.ensures.turned in
     first.calm
 
 pub pause_for-requires-clause-goes_on : goal.pause_for-requires-clause-goes_on
 pause_for-requires-clause-goes_on g c =
-    let first = turned_needs (g.T.TogetherRuns.shares c.args.runs.now) (g.T.TogetherRuns.shares c.turn-stepped.new.self) _ _ c.args.at c.requires.calm c.requires.goes_on c.stands.ensures.shared c.in-Needs.complete c.in-Needs.ensures.turned in
+    let first = turned_needs (g.T.TogetherRuns.shares c.args.runs.now) (g.T.TogetherRuns.shares c.turn-stepped.new.self) _ _ c.args.at c.requires.calm c.requires.goes_on c.shows_shared.ensures.shared c.in-Needs.complete c.in-Needs.ensures.turned in
     first.goes_on refl
 
 pub pause_for-requires-clause-waits : goal.pause_for-requires-clause-waits
 pause_for-requires-clause-waits g c =
-    turned_waits (g.T.TogetherRuns.shares c.args.runs.now) (g.T.TogetherRuns.shares c.turn-stepped.new.self) _ _ c.args.at c.requires.calm c.requires.goes_on c.stands.ensures.shared c.in-Needs.complete c.in-Needs.ensures.turned
+    turned_waits (g.T.TogetherRuns.shares c.args.runs.now) (g.T.TogetherRuns.shares c.turn-stepped.new.self) _ _ c.args.at c.requires.calm c.requires.goes_on c.shows_shared.ensures.shared c.in-Needs.complete c.in-Needs.ensures.turned
 
 pub returns-in-Ran-clause-advances : goal.returns-in-Ran-clause-advances
-returns-in-Ran-clause-advances g c = turned_ran (g.T.TogetherRuns.shares c.args.runs.now) (g.T.TogetherRuns.shares c.turn-stepped.new.self) _ _ c.args.at c.requires.calm c.requires.goes_on c.stands.ensures.shared c.in-Ran.ensures.turned
+returns-in-Ran-clause-advances g c = turned_ran (g.T.TogetherRuns.shares c.args.runs.now) (g.T.TogetherRuns.shares c.turn-stepped.new.self) _ _ c.args.at c.requires.calm c.requires.goes_on c.shows_shared.ensures.shared c.in-Ran.ensures.turned
 
 pub returns-in-Made-clause-advances : goal.returns-in-Made-clause-advances
-returns-in-Made-clause-advances g c = turned_made (g.T.TogetherRuns.shares c.args.runs.now) (g.T.TogetherRuns.shares c.turn-stepped.new.self) _ _ c.args.at c.requires.calm c.requires.goes_on c.stands.ensures.shared c.in-Made.ensures.turned
+returns-in-Made-clause-advances g c = turned_made (g.T.TogetherRuns.shares c.args.runs.now) (g.T.TogetherRuns.shares c.turn-stepped.new.self) _ _ c.args.at c.requires.calm c.requires.goes_on c.shows_shared.ensures.shared c.in-Made.ensures.turned
 
 pub returns-in-Needs-clause-advances : goal.returns-in-Needs-clause-advances
 returns-in-Needs-clause-advances g c =
-    let first = turned_needs (g.T.TogetherRuns.shares c.args.runs.now) (g.T.TogetherRuns.shares c.turn-stepped.new.self) _ _ c.args.at c.requires.calm c.requires.goes_on c.stands.ensures.shared c.in-Needs.complete c.in-Needs.ensures.turned in
+    let first = turned_needs (g.T.TogetherRuns.shares c.args.runs.now) (g.T.TogetherRuns.shares c.turn-stepped.new.self) _ _ c.args.at c.requires.calm c.requires.goes_on c.shows_shared.ensures.shared c.in-Needs.complete c.in-Needs.ensures.turned in
     advances_then (g.T.TogetherRuns.shares c.args.runs.now) (g.T.TogetherRuns.shares c.turn-stepped.new.self) (g.T.TogetherRuns.shares c.pause_for.new.runs) _ _ _ c.args.at c.in-Needs.complete first c.pause_for.ensures.advances
 
 pub returns-in-Ran-clause-nears : goal.returns-in-Ran-clause-nears
 returns-in-Ran-clause-nears g c none =
-    ran_nears (g.T.TogetherRuns.shares c.args.runs.now) (g.T.TogetherRuns.shares c.turn-stepped.new.self) _ _ c.args.at c.requires.calm c.requires.goes_on c.stands.ensures.shared c.in-Ran.ensures.turned
+    ran_nears (g.T.TogetherRuns.shares c.args.runs.now) (g.T.TogetherRuns.shares c.turn-stepped.new.self) _ _ c.args.at c.requires.calm c.requires.goes_on c.shows_shared.ensures.shared c.in-Ran.ensures.turned
 
 pub returns-in-Needs-clause-nears : goal.returns-in-Needs-clause-nears
 returns-in-Needs-clause-nears g c none =
-    let asks = asks_nears (g.T.TogetherRuns.shares c.args.runs.now) (g.T.TogetherRuns.shares c.turn-stepped.new.self) _ _ c.args.at c.requires.calm c.requires.goes_on c.stands.ensures.shared c.in-Needs.complete c.in-Needs.ensures.turned c.requires.rested none in
+    let asks = asks_nears (g.T.TogetherRuns.shares c.args.runs.now) (g.T.TogetherRuns.shares c.turn-stepped.new.self) _ _ c.args.at c.requires.calm c.requires.goes_on c.shows_shared.ensures.shared c.in-Needs.complete c.in-Needs.ensures.turned c.requires.rested none in
     let rank = c.pause_for.ensures.advances.rank none in
     inl (omega (arith, asks, rank))
 
@@ -50,4 +50,4 @@ returns-in-Needs-clause-spends g c none =
 
 pub returns-in-Ran-clause-rested : goal.returns-in-Ran-clause-rested
 returns-in-Ran-clause-rested g c none =
-    ran_rests (g.T.TogetherRuns.shares c.args.runs.now) (g.T.TogetherRuns.shares c.turn-stepped.new.self) _ _ c.args.at c.requires.calm c.requires.goes_on c.stands.ensures.shared c.in-Ran.ensures.turned c.requires.rested
+    ran_rests (g.T.TogetherRuns.shares c.args.runs.now) (g.T.TogetherRuns.shares c.turn-stepped.new.self) _ _ c.args.at c.requires.calm c.requires.goes_on c.shows_shared.ensures.shared c.in-Ran.ensures.turned c.requires.rested

@@ -8,7 +8,7 @@ use Rattle.text_script.proofs.schedule.drive.turning.take_turn.Goals as goal
 
 pub returns-then-has_ended-clause-taken : goal.returns-then-has_ended-clause-taken
 returns-then-has_ended-clause-taken g c p follow =
-    no_turn (g.T.TogetherRuns.shares c.args.runs.now) (g.T.TogetherRuns.seen c.args.runs.now) p c.args.at c.requires.inside c.stands.ensures.shared follow
+    no_turn (g.T.TogetherRuns.shares c.args.runs.now) (g.T.TogetherRuns.seen c.args.runs.now) p c.args.at c.requires.inside c.shows_shared.ensures.shared follow
     (subst (λ b. Has (λ x. x.ended) b (g.T.TogetherRuns.seen c.args.runs.now) c.args.at) c.if-has_ended.true c.has_ended.ensures)
 
 pub turns-init : goal.turns-init
@@ -23,7 +23,7 @@ turns-init g c =
       rested = calm_rests (g.T.TogetherRuns.seen c.args.runs.now) c.args.at c.requires.calm;
       waits = omega arith;
       others = λ e other. refl;
-      midst = λ p follow. turn_begins (g.T.TogetherRuns.shares c.args.runs.now) (g.T.TogetherRuns.seen c.args.runs.now) p c.args.at c.requires.inside c.stands.ensures.shared follow going;
+      midst = λ p follow. turn_begins (g.T.TogetherRuns.shares c.args.runs.now) (g.T.TogetherRuns.seen c.args.runs.now) p c.args.at c.requires.inside c.shows_shared.ensures.shared follow going;
       spent = let same : g.T.TogetherRuns.spare c.args.runs.now ≤ g.T.TogetherRuns.spare c.args.runs.now = omega arith in subst (λ b. SpentInTurn b (g.T.TogetherRuns.spare c.args.runs.now) (g.T.TogetherRuns.spare c.args.runs.now)) (sym (c.requires.calm.none c.args.at)) same;
     }
 
@@ -69,7 +69,7 @@ pub turns-smaller : goal.turns-smaller
 turns-smaller g c =
     let v = g.T.TogetherRuns.seen c.turns.runs in
     let w = g.T.TogetherRuns.seen c.step_on.new.runs in
-    nearer v w c.args.at (c.step_on.ensures.nears c.if-step_on.false) (waiting_few w c.args.at c.stands-in-turns.ensures.stands)
+    nearer v w c.args.at (c.step_on.ensures.nears c.if-step_on.false) (waiting_few w c.args.at c.shows_shared-in-turns.ensures.stands)
 
 pub step_on-requires-clause-room : goal.step_on-requires-clause-room
 step_on-requires-clause-room g c =
