@@ -1,10 +1,12 @@
 -- What the filling of copies comes to.
-use Rattle.std.proofs.Common.{◌≡◌, ℕ, zero, suc, ◌+◌, ◌-◌, ◌*◌, ◌<◌, ◌≤◌, List, [], ◌∷◌, ◌++◌, length, drop, slice_get, Some, sym, refl, ap, ◌∙◌, subst, arith, add-one, ⊎_elim}
+use Rattle.std.proofs.Common.{◌≡◌, ℕ, zero, suc, ◌+◌, ◌-◌, ◌*◌, ◌^◌, ◌<◌, ◌≤◌, List, [], ◌∷◌, ◌++◌, length, drop, slice_get, Some, sym, refl, ap, ◌∙◌, subst, arith, add-one, ⊎_elim}
 use Rattle.model_core.specs.Domains.{IsWithinLimits}
 use Rattle.model_core.specs.Fronts.{Shape}
 use Rattle.heap_words.proofs.WordLemmas.{value_word-injective}
+use Rattle.heap_rule.specs.Layout.{heap_words}
 use Rattle.heap_rule.specs.Limits.{sizes_in}
 use Rattle.heap_rule.specs.Standing.{IsInHeap}
+use Rattle.heap_rule.proofs.Sizes.{heap_small}
 use Rattle.heap_rule.proofs.Values.{extent_large}
 use Rattle.heap_words.specs.declared.value.Value.{Value}
 use Rattle.heap_words.specs.Values.{IsPackable, value_word}
@@ -138,6 +140,14 @@ module _ (k : Config) (i : ℕ) (c : Copied) (x : DomainView) where
 
       pub source_inside : n < size → IsInHeap k (c.source + 2 + n)
       source_inside low = met_value_inside k y c.source n pair.same.from p.works.fit pair.same.here (from_large low)
+
+      -- so its index doesn't wrap
+      pub source_small : IsWithinLimits (sizes_in k) → n < size → c.source + 2 + n < 2 ^ 32
+      source_small limits low =
+          let w : ℕ = heap_words k in
+          let s : w < 2 ^ 24 = heap_small k limits in
+          let h : c.source + 2 + n ≤ w = (source_inside low).1 in
+          let g : c.source + 2 + n < 2 ^ 32 = omega arith in g
 
       to_large : n < size → n + 2 < extent p.place.shape
       to_large low = let b : ℕ = extent p.place.shape in let f : b ≡ size + 2 = p.extent_is in let g : n + 2 < b = omega arith in g

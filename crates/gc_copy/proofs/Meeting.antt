@@ -10,7 +10,7 @@ use Rattle.heap_rule.specs.declared.config.Config.{Config}
 use Rattle.heap_rule.specs.declared.view.Copied.{Copied}
 use Rattle.heap_rule.specs.declared.view.Met.{Met}
 use Rattle.heap_rule.specs.declared.view.DomainView.{DomainView}
-use Rattle.heap_rule.specs.Copies.{ListsCopy, HasCopy, met_place, shape_of_form, known}
+use Rattle.heap_rule.specs.Copies.{ListsCopy, HasCopy, met_place, known}
 use Rattle.heap_rule.specs.Limits.{sizes_in}
 use Rattle.heap_rule.specs.Layout.{heap_words}
 use Rattle.heap_rule.specs.Places.{Place, Live, extent, head_of, new_colour, IsNewHead, IsOldAt, Lasts, More, IsHeadOf}
@@ -19,30 +19,18 @@ use Rattle.heap_rule.specs.declared.view.Held.{Held}
 use Rattle.heap_rule.specs.Finalisers.{held_at}
 use Rattle.heap_rule.specs.Standing.{IsInHeap, IsAt}
 use Rattle.heap_rule.proofs.Values.{address_of}
-use Rattle.step_promote.specs.Promotion.{form_of, met_of, with_met, with_copied, AllFit, Knows, StaysThere, Forwards, HeadMet, HeadMay}
+use Rattle.step_promote.specs.Promotion.{met_of, with_met, with_copied, AllFit, Knows, StaysThere, Forwards, HeadMet, HeadMay}
 use Rattle.gc_copy.specs.Heads.{IsForward, forward_word, IsHeadFor}
 use Rattle.gc_copy.specs.Working.{SameBlock, IsPair, Works, owed_from, with_claims, Learns, Grown, IsMetWith, Claimed}
 use Rattle.step_marks.specs.Marking.Looks.{with_share, knowing_colours}
 use Rattle.step_marks.specs.Marking.Arming.{knowing_armed}
 use Rattle.heap_words.specs.declared.colours.Colours.{Colours}
 use Rattle.heap_rule.proofs.HeadLemmas.{packable_head}
-
-pub form_shape : (s : Shape) → shape_of_form (form_of s) ≡ s
-form_shape (PlainShape size tag) = refl
-form_shape (RawShape size tag) = refl
-form_shape (EpheShape keys) = refl
+use Rattle.heap_rule.proofs.Keeps.{more_same}
+use Rattle.step_promote.proofs.Meets.{more_trans}
 
 pub known_here : (m : Met) (ms : List Met) → known (m ∷ ms) m.address ≡ Some (met_place m)
 known_here m ms = ap (λ (b : Bool). cond b (Some (met_place m)) (known ms m.address)) (eq-eqb m.address m.address refl)
-
-pub more_same : (live : Live) → More live live
-more_same live a p e = record { place = p; lives = e; label = refl; shape = refl }
-
-pub more_twice : (a b c : Live) → More a b → More b c → More a c
-more_twice a b c f g x p e = let h = f x p e in let i = g x h.place h.lives in record { place = i.place; lives = i.lives; label = i.label ∙ h.label; shape = i.shape ∙ h.shape }
-
-pub lasts_more : (live live' : Live) (a : ℕ) (p : Place) → More live live' → Lasts live a p → Lasts live' a p
-lasts_more live live' a p more l = let m = more a l.place l.lives in record { place = m.place; lives = m.lives; label = m.label ∙ l.label; shape = m.shape ∙ l.shape }
 
 pub same_more : (live live' : Live) (a c : ℕ) → More live live' → SameBlock live a c → SameBlock live' a c
 same_more live live' a c more s = let f = more a s.from s.here in let t = more c s.to s.there in record {
@@ -82,7 +70,7 @@ pub learns_same : (x : DomainView) → Learns x x
 learns_same x = record { more = more_same (Knows x); copies = λ a c has. has }
 
 pub learns_twice : (x y z : DomainView) → Learns x y → Learns y z → Learns x z
-learns_twice x y z f g = record { more = more_twice (Knows x) (Knows y) (Knows z) f.more g.more; copies = λ a c has. g.copies a c (f.copies a c has) }
+learns_twice x y z f g = record { more = more_trans (Knows x) (Knows y) (Knows z) f.more g.more; copies = λ a c has. g.copies a c (f.copies a c has) }
 
 -- the domain with other blocks met, and other copies known
 abbrev met_with_copies : DomainView → List Met → List Copied → DomainView

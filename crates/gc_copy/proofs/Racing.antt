@@ -21,7 +21,8 @@ use Rattle.step_promote.specs.Promotion.{met_of, Knows}
 use Rattle.step_promote.specs.Claims.{with_hunt, preparing, pushed, ClaimTold}
 use Rattle.gc_copy.specs.Heads.{IsForward, forward_word}
 use Rattle.gc_copy.specs.Working.{SameBlock, IsPair, Works, with_claims, IsMetWith, Claimed, Prepared, Written}
-use Rattle.gc_copy.proofs.Meeting.{form_shape, known_here, same_lasts, pair_more, old_small, forward_same}
+use Rattle.step_promote.proofs.Meets.{form_shape}
+use Rattle.gc_copy.proofs.Meeting.{known_here, same_lasts, pair_more, old_small, forward_same}
 use Rattle.gc_copy.proofs.Preparing.{place_old, set_none}
 
 some_same : (p q : Place) → Some p ≡ Some q → p ≡ q

@@ -15,7 +15,8 @@ use Rattle.heap_rule.specs.Standing.{with_registers}
 use Rattle.step_promote.specs.Promotion.{Knows, recalling, HasValueAt, MoveTold, Recalled, RewriteMay, RewriteTold}
 use Rattle.gc_copy.specs.Working.{SameBlock, Works, Tied, with_claims, Learns, Grown, Claimed, Forwarded}
 use Rattle.gc_copy.specs.Roots.{Becomes, Moved, with_rewrites, Rewritten}
-use Rattle.gc_copy.proofs.Meeting.{grown_met, grown_twice, lasts_more, same_more}
+use Rattle.step_promote.proofs.Meets.{lasts_more}
+use Rattle.gc_copy.proofs.Meeting.{grown_met, grown_twice, same_more}
 use Rattle.step_promote.proofs.Resets.{old_word}
 use Rattle.gc_copy.proofs.Fills.{tied_grown}
 

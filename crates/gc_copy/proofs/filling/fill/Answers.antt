@@ -1,9 +1,7 @@
-use Rattle.std.proofs.Common.{ℕ, ◌+◌, ◌-◌, ◌^◌, ◌<◌, ◌≤◌, sym, subst, arith}
-use Rattle.heap_rule.specs.Layout.{heap_words}
-use Rattle.heap_rule.proofs.Sizes.{heap_small}
+use Rattle.std.proofs.Common.{ℕ, ◌+◌, ◌-◌, ◌^◌, ◌<◌, sym, subst, arith}
 use Rattle.step_promote.specs.Promotion.{FillMay}
 use Rattle.gc_copy.proofs.Meeting.{met_inside}
-use Rattle.gc_copy.proofs.Fills.{progress_start, words_large, source_inside, value_grown, value_stands, progress_forwarded, fill_may, progress_on, ended}
+use Rattle.gc_copy.proofs.Fills.{progress_start, words_large, source_inside, source_small, value_grown, value_stands, progress_forwarded, fill_may, progress_on, ended}
 use Rattle.gc_copy.proofs.filling.fill.Goals as goal
 
 pub young_head_load-requires-clause-inside : goal.young_head_load-requires-clause-inside
@@ -19,25 +17,13 @@ loop-place-init c = record {
 
 pub overflow_add-source : goal.overflow_add-source
 overflow_add-source c =
-    let k = c.args.heap.now.config in
-    let i = source_inside k c.args.i c.pending_at-copy.result c.args.dom.now.view (c.words_of-size.result - 2) c.loop-place.place c.loop-place.dom.view c.loop-place.invariant.progress c.loop-place-test.true in
-    let w : ℕ = heap_words k in
-    let s : w < 2 ^ 24 = heap_small k c.config-limits.ensures.limits in
     let a : ℕ = c.pending_at-copy.result.source in
     let n : ℕ = c.loop-place.place in
-    let h : a + 2 + n ≤ w = i.1 in
+    let h : a + 2 + n < 2 ^ 32 = source_small c.args.heap.now.config c.args.i c.pending_at-copy.result c.args.dom.now.view (c.words_of-size.result - 2) c.loop-place.place c.loop-place.dom.view c.loop-place.invariant.progress c.config-limits.ensures.limits c.loop-place-test.true in
     let g : a + 2 < 2 ^ 32 = omega arith in record { fits = g }
 
 pub overflow_add-source-in-loop-place : goal.overflow_add-source-in-loop-place
-overflow_add-source-in-loop-place c =
-    let k = c.args.heap.now.config in
-    let i = source_inside k c.args.i c.pending_at-copy.result c.args.dom.now.view (c.words_of-size.result - 2) c.loop-place.place c.loop-place.dom.view c.loop-place.invariant.progress c.loop-place-test.true in
-    let w : ℕ = heap_words k in
-    let s : w < 2 ^ 24 = heap_small k c.config-limits.ensures.limits in
-    let a : ℕ = c.pending_at-copy.result.source in
-    let n : ℕ = c.loop-place.place in
-    let h : a + 2 + n ≤ w = i.1 in
-    let g : a + 2 + n < 2 ^ 32 = omega arith in record { fits = g }
+overflow_add-source-in-loop-place c = record { fits = source_small c.args.heap.now.config c.args.i c.pending_at-copy.result c.args.dom.now.view (c.words_of-size.result - 2) c.loop-place.place c.loop-place.dom.view c.loop-place.invariant.progress c.config-limits.ensures.limits c.loop-place-test.true }
 
 pub forwarded-value-requires-clause-works : goal.forwarded-value-requires-clause-works
 forwarded-value-requires-clause-works c =

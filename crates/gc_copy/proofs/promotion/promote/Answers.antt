@@ -13,7 +13,8 @@ use Rattle.gc_copy.specs.Held.{with_held_moves, without_addresses}
 use Rattle.gc_copy.specs.Roots.{Becomes, with_moves, with_rewrites}
 use Rattle.gc_copy.specs.Sharing.{with_share}
 use Rattle.gc_copy.specs.Working.{Learns, with_claims}
-use Rattle.gc_copy.proofs.Meeting.{more_same, learns_twice}
+use Rattle.heap_rule.proofs.Keeps.{more_same}
+use Rattle.gc_copy.proofs.Meeting.{learns_twice}
 use Rattle.gc_copy.proofs.Rooting.{becomes_on}
 use Rattle.gc_copy.proofs.promotion.promote.Goals as goal
 
