@@ -147,6 +147,29 @@ pub alone : (old new : CacheView) (root : Label) (first last : SessionView) → 
 alone old new root first last sizes is_first is_last one legal = alone_spares (sizes_in old.heap.config) root old.heap.front new.heap.front (subst (λ (s : SessionView). s.config.domains ≡ 1) is_first one)
     (subst (λ (w : Sizes). Legal w new.heap.front) sizes (subst (λ (s : SessionView). Legal (sizes_in s.config) s.front) is_last legal))
 
+-- what a session and the most entries make of a cache
+abbrev pub cache_at : SessionView → ℕ → CacheView
+cache_at heap most = record { heap = heap; most = most }
+
+-- what a call says then
+pub get_alone : (heap after : SessionView) (most : ℕ) (first last : SessionView) (has : IsCache (cache_at heap most)) (sizes : sizes_in after.config ≡ sizes_in heap.config) (grows : IsPrefix heap.front after.front)
+    → first ≡ heap → last ≡ after → first.config.domains ≡ 1 → Legal (sizes_in last.config) last.front → (dst : ℕ) → dst < 7 → (v : Value) (r : Reply)
+    → (OthersSpare (sizes_in heap.config) has.root 0 heap.front after.front → GetReturns (sizes_in heap.config) 0 heap.front after.front has.root most dst v r) → GetSays (cache_at heap most) (cache_at after most) sizes refl has grows dst v r
+get_alone heap after most first last has sizes grows is_first is_last one legal dst few v r answer =
+    get_says (cache_at heap most) (cache_at after most) sizes refl has grows dst few v r (answer (alone (cache_at heap most) (cache_at after most) has.root first last sizes is_first is_last one legal))
+
+pub take_alone : (heap after : SessionView) (most : ℕ) (first last : SessionView) (has : IsCache (cache_at heap most)) (sizes : sizes_in after.config ≡ sizes_in heap.config) (grows : IsPrefix heap.front after.front)
+    → first ≡ heap → last ≡ after → first.config.domains ≡ 1 → Legal (sizes_in last.config) last.front → (dst : ℕ) → dst < 7 → (v : Value) (r : Reply)
+    → (OthersSpare (sizes_in heap.config) has.root 0 heap.front after.front → TakeReturns (sizes_in heap.config) 0 heap.front after.front has.root most dst v r) → TakeSays (cache_at heap most) (cache_at after most) sizes refl has grows dst v r
+take_alone heap after most first last has sizes grows is_first is_last one legal dst few v r answer =
+    take_says (cache_at heap most) (cache_at after most) sizes refl has grows dst few v r (answer (alone (cache_at heap most) (cache_at after most) has.root first last sizes is_first is_last one legal))
+
+pub put_alone : (heap after : SessionView) (most : ℕ) (first last : SessionView) (has : IsCache (cache_at heap most)) (sizes : sizes_in after.config ≡ sizes_in heap.config) (grows : IsPrefix heap.front after.front)
+    → first ≡ heap → last ≡ after → first.config.domains ≡ 1 → Legal (sizes_in last.config) last.front → (key item : Value) (r : Reply)
+    → (OthersSpare (sizes_in heap.config) has.root 0 heap.front after.front → PutReturns (sizes_in heap.config) 0 heap.front after.front has.root most key item r) → PutSays (cache_at heap most) (cache_at after most) sizes refl has grows key item r
+put_alone heap after most first last has sizes grows is_first is_last one legal key item r answer =
+    put_says (cache_at heap most) (cache_at after most) sizes refl has grows key item r (answer (alone (cache_at heap most) (cache_at after most) has.root first last sizes is_first is_last one legal))
+
 -- a new cache
 pub made : (z y : Sizes) (old new : List Entry) (size : ℕ) (r : Reply) (l : Label) → y ≡ z → r ≡ reply.Block l → MakeReturns z 0 old new 7 size r → HasCache y new size × (places_in y new (held_in y new 7) ≡ replicate size None)
 made z y old new size r l same is x = ⊎_elim

@@ -4,36 +4,27 @@ use Rattle.run_session.specs.Sessions.{SessionView}
 use Rattle.example_cache.specs.declared.cache.Inserted.{Inserted}
 use Rattle.example_cache.specs.Caching.{CacheView, InsertAnswers, IsCache, KeepsRegisters, RoomAnswers, inserted_of, holds}
 use Rattle.example_cache.proofs.Entries.{keeps_same}
-use Rattle.example_cache.proofs.Calls.{alone, put_says, room_says}
+use Rattle.example_cache.proofs.Calls.{cache_at, put_alone, room_says}
 use Rattle.example_cache.proofs.cache.Cache.insert.Goals.{then-labels_left-lt1-via-then-labels_left-lt1, then-labels_left-lt1-via-else-labels_left-lt1+then-ephes_room-lt1}
 use Rattle.example_cache.proofs.cache.Cache.insert.Goals as goal
 
 pub invariant_of-self : goal.invariant_of-self
 invariant_of-self g c =
-    let old : CacheView = record { heap = c.self.inside.heap; most = c.self.inside.most } in
-    let new : CacheView = record { heap = c.cache_put-reply.new.m; most = c.self.inside.most } in
-    let has = c.self.invariant in
-    let spares = alone old new has.root c.session-2.result.now c.session-3.result.now c.cache_put-reply.ensures.puts.stays.sizes c.session-2.ensures c.session-3.ensures c.shows_legal.ensures.alone c.shows_legal-2.ensures.legal in
-    let says = put_says old new c.cache_put-reply.ensures.puts.stays.sizes refl has c.cache_put-reply.ensures.puts.grows (holds old c.args.key) (holds old c.args.item) c.cache_put-reply.result (c.cache_put-reply.ensures.answer has.root has.held has.cache spares) in
+    let says = put_alone c.self.inside.heap c.cache_put-reply.new.m c.self.inside.most c.session-2.result.now c.session-3.result.now c.self.invariant c.cache_put-reply.ensures.puts.stays.sizes c.cache_put-reply.ensures.puts.grows c.session-2.ensures c.session-3.ensures c.shows_legal.ensures.alone c.shows_legal-2.ensures.legal
+    (holds (cache_at c.self.inside.heap c.self.inside.most) c.args.key) (holds (cache_at c.self.inside.heap c.self.inside.most) c.args.item) c.cache_put-reply.result (c.cache_put-reply.ensures.answer c.self.invariant.root c.self.invariant.held c.self.invariant.cache) in
     says.2
 
 pub returns-clause-answers : goal.returns-clause-answers
 returns-clause-answers g c =
-    let old : CacheView = record { heap = c.self.inside.heap; most = c.self.inside.most } in
-    let new : CacheView = record { heap = c.cache_put-reply.new.m; most = c.self.inside.most } in
-    let has = c.self.invariant in
-    let spares = alone old new has.root c.session-2.result.now c.session-3.result.now c.cache_put-reply.ensures.puts.stays.sizes c.session-2.ensures c.session-3.ensures c.shows_legal.ensures.alone c.shows_legal-2.ensures.legal in
-    let says = put_says old new c.cache_put-reply.ensures.puts.stays.sizes refl has c.cache_put-reply.ensures.puts.grows (holds old c.args.key) (holds old c.args.item) c.cache_put-reply.result (c.cache_put-reply.ensures.answer has.root has.held has.cache spares) in
-    subst (λ (r : Inserted). InsertAnswers c.args.self.now new (label_of (holds c.args.self.now c.args.key)) (holds c.args.self.now c.args.item) r) (sym c.inserted_of.ensures) (subst (λ (v : CacheView). InsertAnswers v new (label_of (holds v c.args.key)) (holds v c.args.item) (inserted_of c.cache_put-reply.result)) c.self.view_is says.0)
+    let says = put_alone c.self.inside.heap c.cache_put-reply.new.m c.self.inside.most c.session-2.result.now c.session-3.result.now c.self.invariant c.cache_put-reply.ensures.puts.stays.sizes c.cache_put-reply.ensures.puts.grows c.session-2.ensures c.session-3.ensures c.shows_legal.ensures.alone c.shows_legal-2.ensures.legal
+    (holds (cache_at c.self.inside.heap c.self.inside.most) c.args.key) (holds (cache_at c.self.inside.heap c.self.inside.most) c.args.item) c.cache_put-reply.result (c.cache_put-reply.ensures.answer c.self.invariant.root c.self.invariant.held c.self.invariant.cache) in
+    subst (λ (r : Inserted). InsertAnswers c.args.self.now (cache_at c.cache_put-reply.new.m c.self.inside.most) (label_of (holds c.args.self.now c.args.key)) (holds c.args.self.now c.args.item) r) (sym c.inserted_of.ensures) (subst (λ (v : CacheView). InsertAnswers v (cache_at c.cache_put-reply.new.m c.self.inside.most) (label_of (holds v c.args.key)) (holds v c.args.item) (inserted_of c.cache_put-reply.result)) c.self.view_is says.0)
 
 pub returns-clause-registers : goal.returns-clause-registers
 returns-clause-registers g c =
-    let old : CacheView = record { heap = c.self.inside.heap; most = c.self.inside.most } in
-    let new : CacheView = record { heap = c.cache_put-reply.new.m; most = c.self.inside.most } in
-    let has = c.self.invariant in
-    let spares = alone old new has.root c.session-2.result.now c.session-3.result.now c.cache_put-reply.ensures.puts.stays.sizes c.session-2.ensures c.session-3.ensures c.shows_legal.ensures.alone c.shows_legal-2.ensures.legal in
-    let says = put_says old new c.cache_put-reply.ensures.puts.stays.sizes refl has c.cache_put-reply.ensures.puts.grows (holds old c.args.key) (holds old c.args.item) c.cache_put-reply.result (c.cache_put-reply.ensures.answer has.root has.held has.cache spares) in
-    subst (λ (v : CacheView). KeepsRegisters v new 7) c.self.view_is says.1
+    let says = put_alone c.self.inside.heap c.cache_put-reply.new.m c.self.inside.most c.session-2.result.now c.session-3.result.now c.self.invariant c.cache_put-reply.ensures.puts.stays.sizes c.cache_put-reply.ensures.puts.grows c.session-2.ensures c.session-3.ensures c.shows_legal.ensures.alone c.shows_legal-2.ensures.legal
+    (holds (cache_at c.self.inside.heap c.self.inside.most) c.args.key) (holds (cache_at c.self.inside.heap c.self.inside.most) c.args.item) c.cache_put-reply.result (c.cache_put-reply.ensures.answer c.self.invariant.root c.self.invariant.held c.self.invariant.cache) in
+    subst (λ (v : CacheView). KeepsRegisters v (cache_at c.cache_put-reply.new.m c.self.inside.most) 7) c.self.view_is says.1
 
 pub returns-then-labels_left-lt1-clause-answers : goal.returns-then-labels_left-lt1-clause-answers
 returns-then-labels_left-lt1-clause-answers g c = keeps_same c.args.self.now c.args.self.now refl refl (subst IsCache c.self.view_is c.self.invariant) refl (label_of (holds c.args.self.now c.args.key))
