@@ -1,6 +1,6 @@
 -- What each call makes of the resources, by what the seat performed.
 use Rattle.std.proofs.Common.{◌≡◌, ◌≢◌, ◌∙◌, ⊎_elim, ℕ, ◌+◌, ◌<◌, ◌≤◌, Bool, true, false, List, [], ◌∷◌, ◌++◌, length, refl, sym, ap, subst, append-nil, append_assoc, add-one, eq-eqb, length-append, get_or-set_same, arith}
-use Rattle.std.specs.Prelude.{◌||◌, Option, Some, None, cond, get_or, option_map, option_to_list, slice_get, take}
+use Rattle.std.specs.Prelude.{◌||◌, Option, Some, None, cond, drop, get_or, option_map, option_to_list, slice_get, take}
 use Rattle.std.proofs.lemmas.List.{take-append-le, take_all}
 use Rattle.std.proofs.lemmas.Option.{slice_get_within}
 use Rattle.std.proofs.lemmas.List.Folds.{list_any-append}
@@ -389,3 +389,23 @@ none_kept most s unused = record {
 -- what a vector holds once its slice is another of its length
 pub written : (n : ℕ) (xs ys : List Resource) → length xs ≡ n → take n (xs ++ ys) ≡ xs
 written n xs ys same = subst (λ (k : ℕ). take k (xs ++ ys) ≡ xs) same (take-append-le (length xs) xs ys (omega arith) ∙ take_all (length xs) xs (omega arith))
+
+-- a vector whose whole slice was changed as a seat tells
+abbrev pub stored : ℕ → List Resource → List Resource → List Resource
+stored n were are = take n (are ++ drop (length are) were)
+
+pub record Changed (n : ℕ) (were are : List Resource) (ran : List Reply) : Type 0 where
+  pub items : stored n were are ≡ are
+  pub count : length are ≡ length were
+  pub settled : Settled were ran are
+
+pub changed : {lent : List Resource} (n : ℕ) (were are : List Resource) (ran : List Reply) → lent ≡ were → Settled lent ran are → length lent ≡ n → length are ≡ length lent → Changed n were are ran
+changed n were are ran is settles held many = record {
+  items = written n are (drop (length are) were) (many ∙ held);
+  count = many ∙ ap length is;
+  settled = subst (λ (ys : List Resource). Settled ys ran are) is settles;
+}
+
+-- the same where what the seat tells has another name
+pub changed_told : {lent : List Resource} {told : List Reply} (n : ℕ) (were are : List Resource) (ran : List Reply) → lent ≡ were → told ≡ ran → Settled lent told are → length lent ≡ n → length are ≡ length lent → Changed n were are ran
+changed_told {lent} {told} n were are ran is same settles held many = changed n were are ran is (subst (λ (rs : List Reply). Settled lent rs are) same settles) held many
