@@ -14,8 +14,8 @@ use Rattle.text_script.specs.Sections.{AreSectionTexts, IsSectionText, headed, t
 use Rattle.text_script.specs.Spelling.{Spells, heading_text, with_empty}
 use Rattle.text_script.proofs.SoleLemmas.{sections_join}
 use Rattle.text_script.proofs.FrontLemmas.{drop_on}
-use Rattle.camlheap_run.specs.declared.cutting.Cut.{Cut}
-use Rattle.camlheap_run.specs.declared.reader.Reader.{Reader}
+use Rattle.camlheap_run.specs.declared.read.cut.Cut.{Cut}
+use Rattle.camlheap_run.specs.declared.read.reader.Reader.{Reader}
 use Rattle.camlheap_run.specs.Readers.{AreReadersDriven, IsCut, IsReaderOf, SameSection, SaysLines, lines_of, read_of, whole}
 use Rattle.camlheap_run.proofs.RunLemmas.{all_from_each, each_from_all}
 

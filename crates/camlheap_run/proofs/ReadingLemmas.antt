@@ -10,10 +10,10 @@ use Rattle.text_script.specs.declared.fault.ScriptFault.{ScriptFault}
 use Rattle.text_script.specs.declared.fault.ScriptFault.TheVariants.{Syntax, Order, Range, TooLong, TooMany, Spawn, Memory}
 use Rattle.text_script.specs.Script.{Scripted}
 use Rattle.text_script.specs.Spelling.{IsUnlessMemory, Spells}
-use Rattle.camlheap_run.specs.declared.reading.NoScript.{NoScript}
-use Rattle.camlheap_run.specs.declared.reading.NoReplay.{NoReplay}
-use Rattle.camlheap_run.specs.declared.reading.NoReplay.TheVariants.{Refused as ReplayRefused}
-use Rattle.camlheap_run.specs.declared.reading.NoScript.TheVariants.{Refused}
+use Rattle.camlheap_run.specs.declared.read.texts.NoScript.{NoScript}
+use Rattle.camlheap_run.specs.declared.read.texts.NoReplay.{NoReplay}
+use Rattle.camlheap_run.specs.declared.read.texts.NoReplay.TheVariants.{Refused as ReplayRefused}
+use Rattle.camlheap_run.specs.declared.read.texts.NoScript.TheVariants.{Refused}
 use Rattle.model_core.specs.declared.state.Sizes.{Sizes}
 use Rattle.text_script.specs.declared.schedule.text.replay.ReplayFault.{ReplayFault}
 use Rattle.text_script.specs.declared.schedule.text.replay.ReplayFault.TheVariants.{Memory as ReplayMemory, NotReplayable as NotReplayableOf, Schedule as ScheduleOf, Script as ScriptOf}

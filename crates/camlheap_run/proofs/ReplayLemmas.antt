@@ -37,8 +37,8 @@ use Rattle.text_script.specs.Schedule.Text.Replays.{HasFault, IsTooLong, Replaye
 use Rattle.run_replay.specs.Asking.{HasAmple}
 use Rattle.run_replay.specs.Ends.{MayBeHeld}
 use Rattle.run_replay.specs.Replayed.{IsUntouched, MayReplay, Replayed, commands_of}
-use Rattle.camlheap_run.specs.declared.begin.Begun.{Begun}
-use Rattle.camlheap_run.specs.declared.report.Report.TheVariants.{Replies}
+use Rattle.camlheap_run.specs.declared.run.begin.Begun.{Begun}
+use Rattle.camlheap_run.specs.declared.write.report.Report.TheVariants.{Replies}
 use Rattle.camlheap_run.specs.Running.{IsBegun, IsHere, IsOver, IsPastOf, opened}
 use Rattle.camlheap_run.specs.declared.status.Status.TheVariants.{Script}
 use Rattle.camlheap_run.specs.Reading.{IsSpelled, IsSpelledReplay}

@@ -22,9 +22,9 @@ use Rattle.heap_rule.specs.Ending.{EndedHeap, AllIn, AllBegin, Begins}
 use Rattle.run_turns.specs.declared.supply.Supply.{Supply}
 use Rattle.run_turns.specs.declared.supply.Supply.TheVariants.{Listed}
 use Rattle.run_turns.specs.Runs.{AreKept, RunView, EndsIn, GoesOn, IsRun, is_end_of}
-use Rattle.camlheap_run.specs.declared.begin.Begun.{Begun}
-use Rattle.camlheap_run.specs.declared.report.Report.{Report}
-use Rattle.camlheap_run.specs.declared.report.Report.TheVariants.{Replies, Summary}
+use Rattle.camlheap_run.specs.declared.run.begin.Begun.{Begun}
+use Rattle.camlheap_run.specs.declared.write.report.Report.{Report}
+use Rattle.camlheap_run.specs.declared.write.report.Report.TheVariants.{Replies, Summary}
 use Rattle.camlheap_run.specs.Running.{AreDriven, DrivesToEnd, IsBegun, IsHere, IsOver, IsPastOf, opened, token_of}
 use Rattle.camlheap_run.specs.Writing.{AppendsFront, run_text, text_of}
 use Rattle.camlheap_run.specs.Outcome.{HasRun, WritesRun, WritesFrontOfRun}

@@ -5,8 +5,8 @@ use Rattle.std.proofs.lemmas.Bool.Decides.{nat_tests}
 use Rattle.text_script.specs.declared.fault.ScriptFault.{ScriptFault}
 use Rattle.table_text.specs.Faults.{first_fault as table_fault}
 use Rattle.table_text.specs.Sections.Faults.{first_sections_fault}
-use Rattle.camlheap_run.specs.declared.reading.NoScript.{NoScript}
-use Rattle.camlheap_run.specs.declared.reading.NoScript.TheVariants.{ReadFault as NoRead, Refused, Memory as NoMemory}
+use Rattle.camlheap_run.specs.declared.read.texts.NoScript.{NoScript}
+use Rattle.camlheap_run.specs.declared.read.texts.NoScript.TheVariants.{ReadFault as NoRead, Refused, Memory as NoMemory}
 use Rattle.camlheap_run.specs.declared.status.Status.{Status}
 use Rattle.camlheap_run.specs.declared.status.Status.TheVariants.{Script, Memory}
 use Rattle.camlheap_run.specs.Outcome.{IsDoneOrMemory, IsEither, read_status}

@@ -41,8 +41,8 @@ use Rattle.run_turns.specs.Sections.{AllFitIn, IsInSection, IsTold, is_spawned_a
 use Rattle.run_turns.proofs.Opened.{opened_begins}
 use Rattle.text_script.specs.Spawned.Reads.{IsRead, HasMadeSection, AreTold as FrontsAreTold}
 use Rattle.text_script.proofs.OfSpawned.Reading.{join, fronts}
-use Rattle.camlheap_run.specs.declared.begin.Begun.{Begun}
-use Rattle.camlheap_run.specs.declared.report.Report.TheVariants.{Replies}
+use Rattle.camlheap_run.specs.declared.run.begin.Begun.{Begun}
+use Rattle.camlheap_run.specs.declared.write.report.Report.TheVariants.{Replies}
 use Rattle.camlheap_run.specs.Run.{IsRunOf, IsSpawningRunOf, is_run_of, output_of}
 use Rattle.camlheap_run.specs.Running.{AreDriven, BeginsSection, DrivesToEnd, IsPastOf, IsSectioned, MayBeginSections, deck_of, most_of, sectioned_each, sectioned_with}
 use Rattle.camlheap_run.specs.Writing.{AppendsFront, run_text}

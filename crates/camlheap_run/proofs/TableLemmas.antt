@@ -20,7 +20,7 @@ use Rattle.table_text.specs.declared.machine.reply.LineReply.{LineReply}
 use Rattle.table_text.specs.Machine.Machine.{all_made, made_by}
 use Rattle.table_text.specs.Machine.Texts.{replies_text}
 use Rattle.table_run.specs.Running.{TextRuns, all_rooms, rooms_of}
-use Rattle.camlheap_run.specs.declared.table.Opened.{Opened}
+use Rattle.camlheap_run.specs.declared.table.alone.Opened.{Opened}
 use Rattle.camlheap_run.specs.Tables.{HasRunTable, IsOpened, MayRunAlone, ephemerons_for, WritesFrontOfTable, WritesTable}
 use Rattle.camlheap_run.specs.Writing.{AppendsFront}
 use Rattle.camlheap_run.proofs.SectionLemmas.{rooms_fit}

@@ -8,12 +8,12 @@ use Rattle.model_core.specs.Output.{line, printed, ints_of, int_sum}
 use Rattle.text_script.specs.Spelling.{heading_text}
 use Rattle.run_turns.specs.Runs.{RunView, GoesOn}
 use Rattle.heap_rule.specs.Token.{SharedHeap, IsIn}
-use Rattle.camlheap_run.specs.declared.report.Report.{Report}
-use Rattle.camlheap_run.specs.declared.report.Report.TheVariants.{Replies, Summary}
-use Rattle.camlheap_run.specs.declared.text.Text.{Text}
-use Rattle.camlheap_run.specs.declared.telling.Teller.{Teller}
-use Rattle.camlheap_run.specs.declared.telling.Telling.{Telling}
-use Rattle.camlheap_run.specs.declared.telling.Telling.TheVariants.{Later, Told, Untold}
+use Rattle.camlheap_run.specs.declared.write.report.Report.{Report}
+use Rattle.camlheap_run.specs.declared.write.report.Report.TheVariants.{Replies, Summary}
+use Rattle.camlheap_run.specs.declared.write.text.Text.{Text}
+use Rattle.camlheap_run.specs.declared.write.tellers.Teller.{Teller}
+use Rattle.camlheap_run.specs.declared.write.tellers.Telling.{Telling}
+use Rattle.camlheap_run.specs.declared.write.tellers.Telling.TheVariants.{Later, Told, Untold}
 use Rattle.camlheap_run.specs.Running.{AreDriven}
 use Rattle.camlheap_run.specs.Telling.{AreTellersDriven, IsBlank, IsTeller, Tells, run_of, teller_text}
 use Rattle.camlheap_run.specs.Writing.{run_text}

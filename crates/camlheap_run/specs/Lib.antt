@@ -10,3 +10,4 @@ pub mod Outcome
 pub mod Tables
 pub mod Replaying
 pub mod Readers
+pub mod Promises

@@ -8,8 +8,8 @@ use Rattle.model_core.specs.Output.{summary}
 use Rattle.heap_rule.specs.Ending.{EndedHeap}
 use Rattle.camlheap_run.specs.declared.status.Status.{Status}
 use Rattle.camlheap_run.specs.declared.status.Status.TheVariants.{Done, Usage, Script, Schedule, NotReplayable, ReadFault, WriteFault, Memory}
-use Rattle.camlheap_run.specs.declared.reading.NoScript.{NoScript}
-use Rattle.camlheap_run.specs.declared.reading.NoScript.TheVariants.{ReadFault as NoRead, Refused, Memory as NoMemory}
+use Rattle.camlheap_run.specs.declared.read.texts.NoScript.{NoScript}
+use Rattle.camlheap_run.specs.declared.read.texts.NoScript.TheVariants.{ReadFault as NoRead, Refused, Memory as NoMemory}
 use Rattle.text_script.specs.declared.words.job.Generated.{Generated}
 use Rattle.text_script.specs.Words.Jobs.{load_sizes}
 use Rattle.camlheap_run.specs.Generating.{script_of}

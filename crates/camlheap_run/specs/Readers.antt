@@ -9,8 +9,8 @@ use Rattle.text_script.specs.declared.version.Version.TheVariants.{Three}
 use Rattle.text_script.specs.Sections.{IsSectionText, text_with}
 use Rattle.model_core.specs.declared.command.Command.{Command}
 use Rattle.run_threads.specs.Driven.{Driven}
-use Rattle.camlheap_run.specs.declared.reader.Reader.{Reader}
-use Rattle.camlheap_run.specs.declared.cutting.Cut.{Cut}
+use Rattle.camlheap_run.specs.declared.read.reader.Reader.{Reader}
+use Rattle.camlheap_run.specs.declared.read.cut.Cut.{Cut}
 
 -- the lines behind the heading of a reader's section
 abbrev pub lines_of : List ℕ → Reader → List ℕ

@@ -5,10 +5,10 @@ use Rattle.text_script.specs.declared.version.Version.TheVariants.{Two, Three}
 use Rattle.text_script.specs.Script.{Scripted}
 use Rattle.text_script.specs.declared.fault.ScriptFault.{ScriptFault}
 use Rattle.text_script.specs.declared.fault.ScriptFault.TheVariants.{Memory}
-use Rattle.camlheap_run.specs.declared.reading.NoScript.{NoScript}
-use Rattle.camlheap_run.specs.declared.reading.NoScript.TheVariants.{ReadFault, Refused, Memory as NoMemory}
-use Rattle.camlheap_run.specs.declared.reading.NoReplay.{NoReplay}
-use Rattle.camlheap_run.specs.declared.reading.NoReplay.TheVariants.{ReadFault as NoReplayRead, Refused as ReplayRefused, Memory as NoReplayMemory}
+use Rattle.camlheap_run.specs.declared.read.texts.NoScript.{NoScript}
+use Rattle.camlheap_run.specs.declared.read.texts.NoScript.TheVariants.{ReadFault, Refused, Memory as NoMemory}
+use Rattle.camlheap_run.specs.declared.read.texts.NoReplay.{NoReplay}
+use Rattle.camlheap_run.specs.declared.read.texts.NoReplay.TheVariants.{ReadFault as NoReplayRead, Refused as ReplayRefused, Memory as NoReplayMemory}
 use Rattle.text_script.specs.Spelling.{Spells}
 use Rattle.text_script.specs.Faults.{first_fault}
 use Rattle.model_core.specs.declared.state.Sizes.{Sizes}

@@ -15,10 +15,10 @@ use Rattle.run_turns.specs.Runs.{RunView, GoesOn, IsRun, CanBegin, CanBeginSecti
 use Rattle.run_threads.specs.Driven.{Driven}
 use Rattle.text_script.specs.Spawning.{is_spawned}
 use Rattle.do_spawn.specs.Opening.{IsOpened}
-use Rattle.camlheap_run.specs.declared.report.Report.{Report}
+use Rattle.camlheap_run.specs.declared.write.report.Report.{Report}
 use Rattle.camlheap_run.specs.Writing.{run_text}
 use Rattle.gc_mark.specs.Decks.{DeckCounts, uncounted}
-use Rattle.camlheap_run.specs.declared.begin.Begun.{Begun}
+use Rattle.camlheap_run.specs.declared.run.begin.Begun.{Begun}
 
 -- sizes that the words of a run may ask for
 pub record AreRunSizes (z : Sizes) : Type 0 where

@@ -15,7 +15,7 @@ use Rattle.table_run.specs.Running.{TextRuns}
 use Rattle.table_sections.specs.Together.{TogetherRuns}
 use Rattle.text_script.specs.Spelling.{heading_text}
 use Rattle.text_script.specs.Words.Jobs.{AreTableSizes}
-use Rattle.camlheap_run.specs.declared.table.Opened.{Opened}
+use Rattle.camlheap_run.specs.declared.table.alone.Opened.{Opened}
 use Rattle.camlheap_run.specs.Reading.{OneOrMore, ReadsSections, ReadsTable}
 use Rattle.camlheap_run.specs.Writing.{AppendsFront}
 

@@ -5,10 +5,10 @@ use Rattle.run_turns.specs.Driving.{goes_nowhere, goes_further}
 use Rattle.run_turns.specs.Runs.{GoesOn, RunView}
 use Rattle.heap_rule.specs.Token.{SharedHeap, IsIn}
 use Rattle.run_threads.specs.Driven.{Driven}
-use Rattle.camlheap_run.specs.declared.report.Report.{Report}
-use Rattle.camlheap_run.specs.declared.telling.Teller.{Teller}
-use Rattle.camlheap_run.specs.declared.telling.Telling.{Telling}
-use Rattle.camlheap_run.specs.declared.telling.Telling.TheVariants.{Later, Told, Untold}
+use Rattle.camlheap_run.specs.declared.write.report.Report.{Report}
+use Rattle.camlheap_run.specs.declared.write.tellers.Teller.{Teller}
+use Rattle.camlheap_run.specs.declared.write.tellers.Telling.{Telling}
+use Rattle.camlheap_run.specs.declared.write.tellers.Telling.TheVariants.{Later, Told, Untold}
 use Rattle.camlheap_run.specs.Writing.{run_text}
 
 abbrev pub run_of : Teller → RunView

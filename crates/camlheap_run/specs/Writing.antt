@@ -7,8 +7,8 @@ use Rattle.model_core.specs.declared.state.Sizes.{Sizes}
 use Rattle.model_core.specs.Output.{line, printed, ints_of, int_sum, output, summary}
 use Rattle.text_script.specs.Spelling.{heading_text}
 use Rattle.run_turns.specs.Runs.{RunView}
-use Rattle.camlheap_run.specs.declared.report.Report.{Report}
-use Rattle.camlheap_run.specs.declared.report.Report.TheVariants.{Replies, Summary}
+use Rattle.camlheap_run.specs.declared.write.report.Report.{Report}
+use Rattle.camlheap_run.specs.declared.write.report.Report.TheVariants.{Replies, Summary}
 
 -- a front part of the text was appended
 pub record AppendsFront (before after : Option (List ℕ)) (text : List ℕ) : Type 0 where

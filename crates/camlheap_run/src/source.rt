@@ -14,11 +14,11 @@ ghost use Rattle.camlheap_run.specs.Tables.{MayHoldTable, TableRunsToEnd, TableS
 ghost use Rattle.camlheap_run.specs.Outcome.{read_status, RunsToEnd, StopsWriting, IsReplayAnswer, IsSourceAnswer, IsSilent, IsWriteFault, IsEither, IsDoneOrMemory};
 
 use crate::Status;
-use crate::reading::{NoReplay, NoScript, replay_of, script_of, sections_of, table_of};
-use crate::replaying::run_replay;
-use crate::run::run_script;
-use crate::sharing::run_together;
-use crate::table::run_table;
+use crate::read::texts::{NoReplay, NoScript, replay_of, script_of, sections_of, table_of};
+use crate::replay::run_replay;
+use crate::run::script::run_script;
+use crate::table::alone::run_table;
+use crate::table::shared::run_together;
 use model_core::state::Sizes;
 use std::alloc::Global;
 use std::sync::Wait;

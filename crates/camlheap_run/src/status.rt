@@ -3,7 +3,7 @@ ghost use Rattle.std.specs.Prelude.{◌≡◌, ◌≤◌, ◌++◌, take, drop, 
 ghost use Rattle.camlheap_run.specs.Status.{exit_number, line_of, fault_text};
 ghost use Rattle.model_core.specs.Output.{line};
 
-use crate::putting::{put, put_number};
+use crate::write::buffer::{put, put_number};
 use heap_rule::Ended;
 use text_script::ScriptFault;
 

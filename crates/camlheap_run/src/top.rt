@@ -1,25 +1,15 @@
 //! The top call, by what the words ask for.
-ghost use Rattle.std.specs.Prelude.{◌≡◌, ◌≢◌, ◌<◌, ◌≤◌, ℕ, List, Option, None, Some, IsSome, map, string_bytes};
-ghost use Rattle.text_script.specs.Words.Jobs.{asked_job};
-ghost use Rattle.text_script.specs.declared.words.job.Generated.{Generated};
-ghost use Rattle.text_script.specs.Script.{Scripted};
+ghost use Rattle.std.specs.Prelude.{◌≡◌, Option, Some};
 ghost use Rattle.model_core.specs.declared.state.Sizes.{Sizes};
 ghost use Rattle.heap_rule.specs.Ending.{EndedHeap};
-ghost use Rattle.text_script.specs.declared.fault.ScriptFault.{ScriptFault};
-ghost use Rattle.text_script.specs.declared.schedule.text.replay.ReplayFault as replay_fault;
-ghost use Rattle.text_script.specs.declared.schedule.text.replay.ReplayFault.TheVariants.{NotReplayable as NotReplayableOf, Schedule as ScheduleOf};
-ghost use Rattle.text_script.specs.Schedule.Text.Replays.{Replayed};
 ghost use Rattle.text_ends.specs.Faults.{Rose};
-ghost use Rattle.camlheap_run.specs.Generating.{WritesScript, WritesFrontOfScript};
-ghost use Rattle.camlheap_run.specs.Words.{AsksToRead, AsksToReplay, ReadsSource};
-ghost use Rattle.camlheap_run.specs.Reading.{IsFirst, IsTableText, ReadsFirstFault, ReadsReplayFault, Tells, TellsFault, TellsFirst, TellsReplay, TellsReplayFault, TellsScript, first_table_fault};
-ghost use Rattle.camlheap_run.specs.Replaying.{ReplaysToEnd, StopsReplaying, fault_status};
-ghost use Rattle.camlheap_run.specs.Tables.{TableRunsToEnd, TableStopsWriting};
-ghost use Rattle.camlheap_run.specs.Outcome.{RunsToEnd, StopsWriting, LoadsToEnd, StopsLoading, IsSilent, IsWriteFault, IsEither, IsDoneOrMemory};
+ghost use Rattle.camlheap_run.specs.Outcome.{RunsToEnd, StopsWriting};
+ghost use Rattle.camlheap_run.specs.Promises.{Decides, GeneratedAnswers, Refusals, ReplayAnswers, Stays, TableAnswers};
+ghost use Rattle.camlheap_run.specs.Words.{asked};
 
 use crate::Status;
-use crate::generating::generate_script;
-use crate::load::load;
+use crate::generate::generate_script;
+use crate::run::load::load;
 use crate::source::{run_replay_source, run_source, run_table_source};
 use std::alloc::{AllocError, Global};
 use std::sync::Wait;
@@ -60,90 +50,31 @@ pub fn camlheap<R: Threads + Wait + Sync, S: Source, K: Sink, G: Gate + Sync>(
     gate: &G,
 ) -> Status
     // What was read and written by `run`, where it ended well, and where a write failed.
-    ensures done { (z : Sizes) (ended : Option EndedHeap) → asked_job (map string_bytes words.now) ≡ Some (Job.Run z) → result ≡ Status.Done ended
+    ensures done { (z : Sizes) (ended : Option EndedHeap) → asked words.now ≡ Some (Job.Run z)
+        → result ≡ Status.Done ended
         → RunsToEnd z ended (S.left src.old) (S.left src.new) (K.written out.old) (K.written out.new) }
-    ensures cut { (z : Sizes) (ended : Option EndedHeap) → asked_job (map string_bytes words.now) ≡ Some (Job.Run z) → result ≡ Status.WriteFault ended
+    ensures cut { (z : Sizes) (ended : Option EndedHeap) → asked words.now ≡ Some (Job.Run z)
+        → result ≡ Status.WriteFault ended
         → StopsWriting z ended (S.left src.old) (S.left src.new) (K.written out.old) (K.written out.new) }
 
-    // What was read and written by `replay`: the replies of the scheduled history, which are those of the heap's own.
-    ensures replay { (z : Sizes) (ended : Option EndedHeap) → asked_job (map string_bytes words.now) ≡ Some (Job.Replay z) → result ≡ Status.Done ended
-        → ReplaysToEnd z ended (S.left src.old) (S.left src.new) (K.written out.old) (K.written out.new) }
-    ensures replay_cut { (z : Sizes) (ended : Option EndedHeap) → asked_job (map string_bytes words.now) ≡ Some (Job.Replay z) → result ≡ Status.WriteFault ended
-        → StopsReplaying z ended (S.left src.old) (S.left src.new) (K.written out.old) (K.written out.new) }
-
-    // What was read and written by `table`: of one domain the replies are those of the machine of the text, whose registers,
-    // bindings and slots are those of the heap at a prefix of its history for each line; of several the replies of each
-    // section are those of its lines in order, between prefixes of one history, in which all share one map.
-    ensures table { (z : Sizes) (ended : Option EndedHeap) → asked_job (map string_bytes words.now) ≡ Some (Job.Table z) → result ≡ Status.Done ended
-        → TableRunsToEnd z ended (S.left src.old) (S.left src.new) (K.written out.old) (K.written out.new) }
-    ensures table_cut { (z : Sizes) (ended : Option EndedHeap) → asked_job (map string_bytes words.now) ≡ Some (Job.Table z) → result ≡ Status.WriteFault ended
-        → TableStopsWriting z ended (S.left src.old) (S.left src.new) (K.written out.old) (K.written out.new) }
-
-    // What was written by `gen`.
-    ensures generated { (g : Generated) (ended : Option EndedHeap) → asked_job (map string_bytes words.now) ≡ Some (Job.Gen g) → result ≡ Status.Done ended
-        → WritesScript g ended (K.written out.old) (K.written out.new) }
-    ensures generated_cut { (g : Generated) (ended : Option EndedHeap) → asked_job (map string_bytes words.now) ≡ Some (Job.Gen g) → result ≡ Status.WriteFault ended
-        → WritesFrontOfScript g ended (K.written out.old) (K.written out.new) }
-
-    // What was run and written by `load`.
-    ensures loaded { (g : Generated) (ended : Option EndedHeap) → asked_job (map string_bytes words.now) ≡ Some (Job.Load g) → result ≡ Status.Done ended
-        → LoadsToEnd g ended (K.written out.old) (K.written out.new) }
-    ensures loaded_cut { (g : Generated) (ended : Option EndedHeap) → asked_job (map string_bytes words.now) ≡ Some (Job.Load g) → result ≡ Status.WriteFault ended
-        → StopsLoading g ended (K.written out.old) (K.written out.new) }
+    // The same of `replay` and of `table`, and what was written by `gen` and `load`.
+    ensures replay { ReplayAnswers (asked words.now) result
+        (S.left src.old) (S.left src.new) (K.written out.old) (K.written out.new) }
+    ensures table { TableAnswers (asked words.now) result
+        (S.left src.old) (S.left src.new) (K.written out.old) (K.written out.new) }
+    ensures generated { GeneratedAnswers (asked words.now) result (K.written out.old) (K.written out.new) }
 
     // What stays: the sink where nothing was to be written, and the source where it isn't to be read.
-    ensures quiet { IsSilent result → out.new ≡ out.old }
-    ensures unread { ¬ (ReadsSource (asked_job (map string_bytes words.now))) → src.new ≡ src.old }
+    ensures stays { Stays (asked words.now) result src.old src.new out.old out.new }
 
-    // When each other answer comes.
-    ensures usage { result ≡ Status.Usage → asked_job (map string_bytes words.now) ≡ None }
-    ensures words { result ≢ Status.Usage → IsSome (asked_job (map string_bytes words.now)) }
-    ensures script { (f : ScriptFault) → result ≡ Status.Script f
-        → AsksToRead (asked_job (map string_bytes words.now)) (λ is_first. ReadsFirstFault is_first (S.left src.old) (S.left src.new) f) }
-    ensures schedule { (l : ℕ) → result ≡ Status.Schedule l
-        → AsksToReplay (asked_job (map string_bytes words.now)) (λ z. ReadsReplayFault z (S.left src.old) (S.left src.new) (ScheduleOf l)) }
-    ensures not_replayable { (w : ℕ) → result ≡ Status.NotReplayable w
-        → AsksToReplay (asked_job (map string_bytes words.now)) (λ z. ReadsReplayFault z (S.left src.old) (S.left src.new) (NotReplayableOf w)) }
-    ensures reads { S.faults src.old ≤ S.faults src.new }
-    ensures writes { K.faults out.old ≤ K.faults out.new }
-    ensures read_fault { result ≡ Status.ReadFault → AsksToRead (asked_job (map string_bytes words.now)) (λ _. Rose (S.faults src.old) (S.faults src.new)) }
-    ensures write_fault { (ended : Option EndedHeap) → result ≡ Status.WriteFault ended → Rose (K.faults out.old) (K.faults out.new) }
+    // When each other answer comes. A read or a write that failed decides the answer: none is tried again.
+    ensures refusals { Refusals (asked words.now) result
+        (S.left src.old) (S.left src.new) (S.faults src.old) (S.faults src.new) (K.faults out.old) (K.faults out.new) }
 
-    // A read or a write that failed decides the answer: none is tried again.
-    ensures read_failed { S.faults src.old < S.faults src.new → result ≡ Status.ReadFault }
-    ensures write_failed { K.faults out.old < K.faults out.new → IsWriteFault result }
-
-    // Where the source tells its bytes, they decide what `run`, `replay` and `table` answer, unless a read or a write fails or memory runs out.
-    ensures complete { (z : Sizes) (s : Scripted) → asked_job (map string_bytes words.now) ≡ Some (Job.Run z)
-        → TellsScript z.domains (S.left src.old) s
-        → ¬ (Rose (S.faults src.old) (S.faults src.new)) → ¬ (Rose (K.faults out.old) (K.faults out.new))
-        → IsDoneOrMemory result }
-    ensures refused { (z : Sizes) (f : ScriptFault) → asked_job (map string_bytes words.now) ≡ Some (Job.Run z)
-        → TellsFault z.domains (S.left src.old) f
-        → ¬ (Rose (S.faults src.old) (S.faults src.new))
-        → IsEither result (Status.Script f) Status.Memory }
-
-    ensures replay_complete { (z : Sizes) (r : Replayed) → asked_job (map string_bytes words.now) ≡ Some (Job.Replay z)
-        → TellsReplay z (S.left src.old) r
-        → ¬ (Rose (S.faults src.old) (S.faults src.new)) → ¬ (Rose (K.faults out.old) (K.faults out.new))
-        → IsDoneOrMemory result }
-    ensures replay_refused { (z : Sizes) (f : replay_fault.ReplayFault) → asked_job (map string_bytes words.now) ≡ Some (Job.Replay z)
-        → TellsReplayFault z (S.left src.old) f
-        → ¬ (Rose (S.faults src.old) (S.faults src.new))
-        → IsEither result (fault_status f) Status.Memory }
-
-    ensures table_complete { (z : Sizes) → asked_job (map string_bytes words.now) ≡ Some (Job.Table z)
-        → Tells (IsTableText z.domains) (S.left src.old)
-        → ¬ (Rose (S.faults src.old) (S.faults src.new)) → ¬ (Rose (K.faults out.old) (K.faults out.new))
-        → IsDoneOrMemory result }
-    ensures table_refused { (z : Sizes) (f : ScriptFault) → asked_job (map string_bytes words.now) ≡ Some (Job.Table z)
-        → TellsFirst (IsFirst (first_table_fault z.domains)) (S.left src.old) f
-        → ¬ (Rose (S.faults src.old) (S.faults src.new))
-        → IsEither result (Status.Script f) Status.Memory }
-
-    // `gen` and `load` are done, unless a write fails or memory runs out.
-    ensures complete_unread { IsSome (asked_job (map string_bytes words.now)) → ¬ (ReadsSource (asked_job (map string_bytes words.now)))
-        → ¬ (Rose (K.faults out.old) (K.faults out.new)) → IsDoneOrMemory result }
+    // Where the source tells its bytes, they decide what `run`, `replay` and `table` answer, and `gen` and `load` are done,
+    // unless a read or a write fails or memory runs out.
+    ensures decided { Decides (asked words.now) result (S.left src.old)
+        (Rose (S.faults src.old) (S.faults src.new)) (Rose (K.faults out.old) (K.faults out.new)) }
 {
     match read_words(alloc, words) {
         Ok(Some(Job::Run(sizes))) => run_source(rt, alloc, &sizes, src, out, gate),

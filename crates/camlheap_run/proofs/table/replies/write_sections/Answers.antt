@@ -1,0 +1,20 @@
+use Rattle.std.proofs.Common.{◌∙◌, sym, subst, List, ℕ, Vec, Global, arith}
+use Rattle.std.specs.Io.KnownBytes.{Appends}
+use Rattle.std.proofs.KnownBytes.{Appends-trans}
+use Rattle.table_text.specs.declared.machine.reply.LineReply.{LineReply}
+use Rattle.camlheap_run.proofs.SharingLemmas.{written_at, written_more}
+use Rattle.camlheap_run.proofs.WritingLemmas.{front_is_written, front_of_second}
+use Rattle.camlheap_run.proofs.table.replies.write_sections.Goals as goal
+
+pub sections-preserved : goal.sections-preserved
+sections-preserved g c =
+    let both = Appends-trans _ _ _ _ _ c.sections.invariant.bytes c.in_ok-write_section.ensures.bytes in
+    let more = written_more (λ (v : Vec LineReply Global). v.items) c.args.sections.now c.sections.domain c.index-sections-domain.result c.as_slice.result.now (omega arith) c.index-sections-domain.is c.as_slice.ensures.value in record {
+      calm = c.in_ok-write_section.ensures.cause.calm ∙ c.sections.invariant.calm;
+      bytes = subst (λ (l : List ℕ). Appends (g.K.Sink.written c.args.out.now) (g.K.Sink.written c.write_section.new.out) l) (sym more) both;
+    }
+
+pub returns-in_err-write_section-clause-bytes : goal.returns-in_err-write_section-clause-bytes
+returns-in_err-write_section-clause-bytes g c =
+    let cut = written_at (λ (v : Vec LineReply Global). v.items) c.args.sections.now c.sections.domain c.index-sections-domain.result c.as_slice.result.now (omega arith) c.index-sections-domain.is c.as_slice.ensures.value in
+    front_is_written _ _ _ _ c.from_residual.ensures.0 (front_of_second _ _ _ _ _ _ _ cut c.sections.invariant.bytes c.in_err-write_section.ensures.bytes)
