@@ -6,92 +6,41 @@ use crate::form::{Operand, Word};
 use crate::version::Version;
 use model_core::command::Command;
 
-// The words of the grammar of the first version. Each version has an array of its own, so that the
-// search goes over known words.
-const FIRST_WORDS: [Word; 22] = [
-    Word::Int,
-    Word::Move,
-    Word::Drop,
-    Word::Alloc,
-    Word::AllocMaj,
-    Word::Load,
-    Word::Store,
-    Word::Ephe,
-    Word::SetKey,
-    Word::UnsetKey,
-    Word::GetKey,
-    Word::CheckKey,
-    Word::SetData,
-    Word::UnsetData,
-    Word::GetData,
-    Word::CheckData,
-    Word::Finalise,
-    Word::FinaliseLast,
-    Word::Poll,
-    Word::Minor,
-    Word::Major,
-    Word::FullMajor,
-];
+// An array of these words, and behind them those of the first version.
+macro_rules! with_first_words {
+    ($($word:ident),*) => {
+        [
+            $(Word::$word,)*
+            Word::Int,
+            Word::Move,
+            Word::Drop,
+            Word::Alloc,
+            Word::AllocMaj,
+            Word::Load,
+            Word::Store,
+            Word::Ephe,
+            Word::SetKey,
+            Word::UnsetKey,
+            Word::GetKey,
+            Word::CheckKey,
+            Word::SetData,
+            Word::UnsetData,
+            Word::GetData,
+            Word::CheckData,
+            Word::Finalise,
+            Word::FinaliseLast,
+            Word::Poll,
+            Word::Minor,
+            Word::Major,
+            Word::FullMajor,
+        ]
+    };
+}
 
-// The words of the grammar of the second version.
-const SECOND_WORDS: [Word; 24] = [
-    Word::Raw,
-    Word::Cas,
-    Word::Int,
-    Word::Move,
-    Word::Drop,
-    Word::Alloc,
-    Word::AllocMaj,
-    Word::Load,
-    Word::Store,
-    Word::Ephe,
-    Word::SetKey,
-    Word::UnsetKey,
-    Word::GetKey,
-    Word::CheckKey,
-    Word::SetData,
-    Word::UnsetData,
-    Word::GetData,
-    Word::CheckData,
-    Word::Finalise,
-    Word::FinaliseLast,
-    Word::Poll,
-    Word::Minor,
-    Word::Major,
-    Word::FullMajor,
-];
-
-// The words of the grammar of the third version.
-const THIRD_WORDS: [Word; 28] = [
-    Word::Raw,
-    Word::Cas,
-    Word::Spawn,
-    Word::Argument,
-    Word::Result,
-    Word::Join,
-    Word::Int,
-    Word::Move,
-    Word::Drop,
-    Word::Alloc,
-    Word::AllocMaj,
-    Word::Load,
-    Word::Store,
-    Word::Ephe,
-    Word::SetKey,
-    Word::UnsetKey,
-    Word::GetKey,
-    Word::CheckKey,
-    Word::SetData,
-    Word::UnsetData,
-    Word::GetData,
-    Word::CheckData,
-    Word::Finalise,
-    Word::FinaliseLast,
-    Word::Poll,
-    Word::Minor,
-    Word::Major,
-    Word::FullMajor,
-];
+// The words of the grammar of each version. Each has an array of its own, so that the search goes over known words.
+const FIRST_WORDS: [Word; 22] = with_first_words![];
+const SECOND_WORDS: [Word; 24] = with_first_words![Raw, Cas];
+const THIRD_WORDS: [Word; 28] = with_first_words![Raw, Cas, Spawn, Argument, Result, Join];
 
 // The word that a row's line begins with.
 pub(crate) fn text_of(word: Word) -> &'static [u8]
