@@ -29,7 +29,6 @@ use std::io::{BufReader, BufWriter, ErrorKind, Read, Write};
 use std::process::ExitCode;
 use std::{env, io};
 use text_ends::{Sink, Source, StdSink, StdSource};
-use text_script::ScriptFault;
 use text_script::schedule::text::ReplayFault;
 use words::{Asked, read_asked};
 
@@ -172,26 +171,11 @@ fn run(rt: &HostRuntime, asked: &Asked) -> io::Result<Outcome>
     }
 }
 
-// Says what is wrong with a script, as `camlheap` does.
-fn tell_fault(rt: &HostRuntime, fault: ScriptFault) -> io::Result<()> {
-    match fault {
-        ScriptFault::Syntax { line } => eprintln!(rt; "script line {line}: syntax"),
-        ScriptFault::Order { line } => eprintln!(rt; "script line {line}: section order"),
-        ScriptFault::Range { line, which } => {
-            eprintln!(rt; "script line {line}: number {which} out of range")
-        }
-        ScriptFault::TooLong { .. } => eprintln!(rt; "script: more than 16777216 bytes"),
-        ScriptFault::TooMany { line } => eprintln!(rt; "script line {line}: too many commands"),
-        ScriptFault::Spawn { line } => eprintln!(rt; "script line {line}: spawn"),
-        ScriptFault::Memory => eprintln!(rt; "out of memory"),
-    }
-}
-
 // Says what is wrong with a replay, as `camlheap` does.
 fn tell_replay_fault(rt: &HostRuntime, fault: ReplayFault) -> io::Result<()> {
     match fault {
         ReplayFault::Schedule { line } => eprintln!(rt; "schedule line {line}"),
-        ReplayFault::Script(fault) => tell_fault(rt, fault),
+        ReplayFault::Script(fault) => eprintln!(rt; "{fault}"),
         ReplayFault::NotReplayable { why } => eprintln!(rt; "not replayable: {why}"),
         ReplayFault::Memory => eprintln!(rt; "out of memory"),
     }
@@ -214,7 +198,7 @@ fn tell_replay(rt: &HostRuntime, judged: JudgedReplay) -> io::Result<()> {
 fn tell_table(rt: &HostRuntime, judged: JudgedTable) -> io::Result<()> {
     match judged {
         JudgedTable::Legal | JudgedTable::NoneFound { .. } => Ok(()),
-        JudgedTable::Text(fault) => tell_fault(rt, fault),
+        JudgedTable::Text(fault) => eprintln!(rt; "{fault}"),
         JudgedTable::NoSeparator => tell_judged(rt, Judged::NoSeparator),
         JudgedTable::TooLong => tell_judged(rt, Judged::TooLong),
         JudgedTable::ReadFault => tell_judged(rt, Judged::ReadFault),
@@ -227,7 +211,7 @@ fn tell_table(rt: &HostRuntime, judged: JudgedTable) -> io::Result<()> {
 fn tell_judged(rt: &HostRuntime, judged: Judged) -> io::Result<()> {
     match judged {
         Judged::Legal | Judged::NoneFound | Judged::GaveUp => Ok(()),
-        Judged::Script(fault) => tell_fault(rt, fault),
+        Judged::Script(fault) => eprintln!(rt; "{fault}"),
         Judged::NoSeparator => eprintln!(rt; "no line --- between the script and the output"),
         Judged::TooLong => eprintln!(rt; "more than 1073741823 bytes"),
         Judged::ReadFault => eprintln!(rt; "read fault"),

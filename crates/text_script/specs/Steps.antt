@@ -1,5 +1,5 @@
 -- What the reader does at one line of a section.
-use Rattle.std.specs.Prelude.{◌≡◌, ℕ, ◌<◌, ◌⊎◌, Bool, true, false, slice_index_or, ◌++◌, ◌∷◌, [], List, ℤ, length, sum_by, Option, Some, None, option_map, option_and_then, pos}
+use Rattle.std.specs.Prelude.{◌≡◌, ℕ, ◌<◌, ◌⊎◌, Bool, true, false, slice_index_or, ◌++◌, ◌∷◌, [], List, ℤ, drop, length, sum_by, IfSome, Option, Some, None, option_map, option_and_then, pos}
 use Rattle.model_core.specs.declared.command.Command.{Command}
 use Rattle.model_core.specs.declared.command.Command.TheVariants.{Spawn}
 use Rattle.text_script.specs.declared.form.Word.{Word}
@@ -10,9 +10,9 @@ use Rattle.text_script.specs.declared.fault.ScriptFault.TheVariants.{Syntax}
 use Rattle.text_script.specs.Number.{clipped}
 use Rattle.text_script.specs.Split.{split_at_mark, numbers_behind}
 use Rattle.text_script.specs.Forms.{form, made}
-use Rattle.text_script.specs.Script.{with_command}
+use Rattle.text_script.specs.Script.{RunGrammar, Scripted, with_command}
 use Rattle.text_script.specs.Spawning.{Place, place_in, has, may_begin, may_follow}
-use Rattle.text_script.specs.Faults.{first_out_of_range, LineShape, heading, command, neither, heading_shape, line_shape, fault_of_shape}
+use Rattle.text_script.specs.Faults.{first_out_of_range, IsFaultUnlessMemory, LineShape, heading, command, neither, heading_shape, line_shape, fault_of_shape}
 
 -- what a line says, and what stands behind its line feed, unless it says nothing
 abbrev pub said_with : LineShape → List ℕ → Option (LineShape × List ℕ)
@@ -97,3 +97,23 @@ pub record Knows (named own : List Bool) (p : Place) : Type 0 where
 abbrev pub IsInside : Command → Type 0
 IsInside (Spawn section item) = section < 8
 IsInside _ = Unit {0}
+
+-- what the line that begins at a place says
+abbrev pub line_at : RunGrammar → List ℕ → ℕ → Option (LineShape × List ℕ)
+line_at g bytes at = line_said g.version (drop at bytes)
+
+-- the line that said this was taken, and the next one begins at this place
+abbrev pub Takes : RunGrammar → Option (LineShape × List ℕ) → List ℕ → Scripted → Scripted → ℕ → Type 0
+Takes g said bytes old new next = TakesSaid g.version g.domains said (drop next bytes) old.sections new.sections
+
+-- the same of a line whose command is added
+abbrev pub TakesCommand : RunGrammar → Option (LineShape × List ℕ) → List ℕ → Scripted → Command × ℕ → Type 0
+TakesCommand g said bytes old found = TakesSaid g.version g.domains said (drop found.1 bytes) old.sections (with_command old.sections found.0)
+
+-- what is known of spawns stays known with such a command
+abbrev pub StaysKnown : List (List Command) → Option (Command × ℕ) → Type 0
+StaysKnown old found = (named own : List Bool) → Knows named own (place_in old) → IfSome found (λ p. Knows named own (place_in (with_command old p.0)))
+
+-- what is wrong with the line that says this, behind these sections, unless memory ran out
+abbrev pub IsFaultOf : RunGrammar → ℕ → Scripted → Option (LineShape × List ℕ) → ScriptFault → Type 0
+IsFaultOf g line old said fault = IsFaultUnlessMemory fault (fault_of_said g.version g.domains line (place_in old.sections) said)

@@ -3,6 +3,7 @@ ghost use Rattle.std.specs.Prelude.{◌≡◌};
 ghost use Rattle.text_script.specs.declared.fault.ScriptFault.TheVariants.{Memory};
 
 use std::alloc::{AllocError, AllocFailed};
+use std::fmt;
 
 /// The first fault of a script, or want of memory. Lines are counted from 1.
 #[derive(Clone, Copy, Debug, PartialEq, Eq)]
@@ -38,5 +39,22 @@ impl<T: Drop> From<AllocFailed<T>> for ScriptFault {
 
     fn from(_: AllocFailed<T>) -> Self {
         ScriptFault::Memory
+    }
+}
+
+/// What is said of a script that is refused, on a line.
+impl fmt::Display for ScriptFault {
+    fn fmt<W: fmt::Write>(&self, f: &mut fmt::Formatter<W>) -> fmt::Result {
+        match self {
+            ScriptFault::Syntax { line } => write!(f, "script line {line}: syntax"),
+            ScriptFault::Order { line } => write!(f, "script line {line}: section order"),
+            ScriptFault::Range { line, which } => {
+                write!(f, "script line {line}: number {which} out of range")
+            }
+            ScriptFault::TooLong { .. } => write!(f, "script: more than 16777216 bytes"),
+            ScriptFault::TooMany { line } => write!(f, "script line {line}: too many commands"),
+            ScriptFault::Spawn { line } => write!(f, "script line {line}: spawn"),
+            ScriptFault::Memory => write!(f, "out of memory"),
+        }
     }
 }

@@ -1,11 +1,10 @@
 // Reading one line of a section.
-ghost use Rattle.std.specs.Prelude.{◌≡◌, ℤ, Bool, true, List, ℕ, ◌≤◌, ◌<◌, ◌^◌, length, drop, sum_by, option_map, IfSome, IfOk, IfErr, OnOk};
+ghost use Rattle.std.specs.Prelude.{◌≡◌, ℤ, true, List, ℕ, ◌≤◌, ◌<◌, ◌^◌, length, drop, sum_by, option_map, IfSome, IfOk, IfErr, OnOk};
 ghost use Rattle.text_script.specs.declared.version.Version.TheVariants.{One};
 ghost use Rattle.text_script.specs.Forms.{is_built};
-ghost use Rattle.text_script.specs.Script.{with_command};
 ghost use Rattle.text_script.specs.Spawning.{place_in};
-ghost use Rattle.text_script.specs.Faults.{first_out_of_range as first_out_of_range_of, IsFaultUnlessMemory};
-ghost use Rattle.text_script.specs.Steps.{heading_said, row_said, line_said, fault_of_said, IsHeading, Says, TakesSaid, Knows};
+ghost use Rattle.text_script.specs.Faults.{first_out_of_range as first_out_of_range_of};
+ghost use Rattle.text_script.specs.Steps.{heading_said, row_said, line_at, IsFaultOf, IsHeading, Knows, Says, StaysKnown, Takes, TakesCommand};
 
 use crate::fault::ScriptFault;
 use crate::form::{Operand, Word};
@@ -58,12 +57,12 @@ fn take_heading(
 ) -> Result<usize, ScriptFault>
     requires domains { grammar.now.domains < 2 ^ 32 }
     requires knows { Knows spawns.old.named spawns.old.own (place_in script.old.sections) }
-    ensures ok { IfOk result (λ next. TakesSaid grammar.now.version grammar.now.domains (heading_said (drop at bytes.now)) (drop next bytes.now) script.old.sections script.new.sections) }
+    ensures ok { IfOk result (Takes grammar.now (heading_said (drop at bytes.now)) bytes.now script.old script.new) }
     ensures further { IfOk result (λ next. at < next) }
     ensures within { IfOk result (λ next. next ≤ length bytes.now) }
     ensures version { OnOk result (script.new.version ≡ script.old.version) }
     ensures knows { OnOk result (Knows spawns.new.named spawns.new.own (place_in script.new.sections)) }
-    ensures fault { IfErr result (λ e. IsFaultUnlessMemory e (fault_of_said grammar.now.version grammar.now.domains line (place_in script.old.sections) (heading_said (drop at bytes.now)))) }
+    ensures fault { IfErr result (IsFaultOf grammar.now line script.old (heading_said (drop at bytes.now))) }
 {
     let Some((number, next)) = heading_at(bytes, at) else {
         return Err(ScriptFault::Syntax { line });
@@ -98,7 +97,7 @@ fn command_at(
     ensures says { IfOk result (λ p. Says grammar.now.version grammar.now.domains (row_said word (drop at bytes.now)) (drop p.1 bytes.now) script.now.sections word p.0) }
     ensures further { IfOk result (λ p. at < p.1) }
     ensures within { IfOk result (λ p. p.1 ≤ length bytes.now) }
-    ensures fault { IfErr result (λ e. IsFaultUnlessMemory e (fault_of_said grammar.now.version grammar.now.domains line (place_in script.now.sections) (row_said word (drop at bytes.now)))) }
+    ensures fault { IfErr result (IsFaultOf grammar.now line script.now (row_said word (drop at bytes.now))) }
 {
     let operands = operands_of(word);
     let Some(row) = row_at(bytes, at, operands.len()) else {
@@ -127,12 +126,12 @@ fn take_command(
     at: usize,
 ) -> Result<usize, ScriptFault>
     requires knows { Knows spawns.old.named spawns.old.own (place_in script.old.sections) }
-    ensures ok { IfOk result (λ next. TakesSaid grammar.now.version grammar.now.domains (row_said word (drop at bytes.now)) (drop next bytes.now) script.old.sections script.new.sections) }
+    ensures ok { IfOk result (Takes grammar.now (row_said word (drop at bytes.now)) bytes.now script.old script.new) }
     ensures further { IfOk result (λ next. at < next) }
     ensures within { IfOk result (λ next. next ≤ length bytes.now) }
     ensures version { OnOk result (script.new.version ≡ script.old.version) }
     ensures knows { OnOk result (Knows spawns.new.named spawns.new.own (place_in script.new.sections)) }
-    ensures fault { IfErr result (λ e. IsFaultUnlessMemory e (fault_of_said grammar.now.version grammar.now.domains line (place_in script.old.sections) (row_said word (drop at bytes.now)))) }
+    ensures fault { IfErr result (IsFaultOf grammar.now line script.old (row_said word (drop at bytes.now))) }
 {
     let (command, next) = match command_at(grammar, line, script, word, bytes, at) {
         Ok(found) => found,
@@ -162,12 +161,12 @@ fn take_other(
     requires within { at ≤ length bytes.now }
     requires domains { grammar.now.domains < 2 ^ 32 }
     requires knows { Knows spawns.old.named spawns.old.own (place_in script.old.sections) }
-    ensures ok { IfOk result (λ next. TakesSaid grammar.now.version grammar.now.domains (line_said grammar.now.version (drop at bytes.now)) (drop next bytes.now) script.old.sections script.new.sections) }
+    ensures ok { IfOk result (Takes grammar.now (line_at grammar.now bytes.now at) bytes.now script.old script.new) }
     ensures further { IfOk result (λ next. at < next) }
     ensures within { IfOk result (λ next. next ≤ length bytes.now) }
     ensures version { OnOk result (script.new.version ≡ script.old.version) }
     ensures knows { OnOk result (Knows spawns.new.named spawns.new.own (place_in script.new.sections)) }
-    ensures fault { IfErr result (λ e. IsFaultUnlessMemory e (fault_of_said grammar.now.version grammar.now.domains line (place_in script.old.sections) (line_said grammar.now.version (drop at bytes.now)))) }
+    ensures fault { IfErr result (IsFaultOf grammar.now line script.old (line_at grammar.now bytes.now at)) }
 {
     let text = first_text(&bytes[at..]);
     let end = at + text.len();
@@ -194,10 +193,10 @@ fn row_command(
     requires first { is_built One word ≡ true }
     requires begun { 0 < length script.now.sections }
     requires room { sum_by length script.now.sections < 200000 }
-    ensures takes { IfSome result (λ p. TakesSaid grammar.now.version grammar.now.domains (line_said grammar.now.version (drop at bytes.now)) (drop p.1 bytes.now) script.now.sections (with_command script.now.sections p.0)) }
+    ensures takes { IfSome result (TakesCommand grammar.now (line_at grammar.now bytes.now at) bytes.now script.now) }
     ensures further { IfSome result (λ p. at < p.1) }
     ensures within { IfSome result (λ p. p.1 ≤ length bytes.now) }
-    ensures knows { (named own : List Bool) → Knows named own (place_in script.now.sections) → IfSome result (λ p. Knows named own (place_in (with_command script.now.sections p.0))) }
+    ensures knows { StaysKnown script.now.sections result }
 {
     let text = text_of(word);
     if !stands_at(bytes, at, text) {
@@ -234,12 +233,12 @@ fn common_command(
     at: usize,
 ) -> Option<(Command, usize)>
     requires within { at ≤ length bytes.now }
-    ensures takes { IfSome result (λ p. TakesSaid grammar.now.version grammar.now.domains (line_said grammar.now.version (drop at bytes.now)) (drop p.1 bytes.now) script.now.sections (with_command script.now.sections p.0)) }
+    ensures takes { IfSome result (TakesCommand grammar.now (line_at grammar.now bytes.now at) bytes.now script.now) }
     ensures further { IfSome result (λ p. at < p.1) }
     ensures within { IfSome result (λ p. p.1 ≤ length bytes.now) }
     ensures begun { IfSome result (λ p. 0 < length script.now.sections) }
     ensures room { IfSome result (λ p. sum_by length script.now.sections < 200000) }
-    ensures knows { (named own : List Bool) → Knows named own (place_in script.now.sections) → IfSome result (λ p. Knows named own (place_in (with_command script.now.sections p.0))) }
+    ensures knows { StaysKnown script.now.sections result }
 {
     if bytes.len() <= at || script.sections() == 0 || MAX_COMMANDS <= script.commands() {
         return None;
@@ -267,12 +266,12 @@ fn rare_command(
     at: usize,
 ) -> Option<(Command, usize)>
     requires within { at ≤ length bytes.now }
-    ensures takes { IfSome result (λ p. TakesSaid grammar.now.version grammar.now.domains (line_said grammar.now.version (drop at bytes.now)) (drop p.1 bytes.now) script.now.sections (with_command script.now.sections p.0)) }
+    ensures takes { IfSome result (TakesCommand grammar.now (line_at grammar.now bytes.now at) bytes.now script.now) }
     ensures further { IfSome result (λ p. at < p.1) }
     ensures within { IfSome result (λ p. p.1 ≤ length bytes.now) }
     ensures begun { IfSome result (λ p. 0 < length script.now.sections) }
     ensures room { IfSome result (λ p. sum_by length script.now.sections < 200000) }
-    ensures knows { (named own : List Bool) → Knows named own (place_in script.now.sections) → IfSome result (λ p. Knows named own (place_in (with_command script.now.sections p.0))) }
+    ensures knows { StaysKnown script.now.sections result }
 {
     if bytes.len() <= at || script.sections() == 0 || MAX_COMMANDS <= script.commands() {
         return None;
@@ -300,12 +299,12 @@ fn take_rare(
     requires within { at ≤ length bytes.now }
     requires domains { grammar.now.domains < 2 ^ 32 }
     requires knows { Knows spawns.old.named spawns.old.own (place_in script.old.sections) }
-    ensures ok { IfOk result (λ next. TakesSaid grammar.now.version grammar.now.domains (line_said grammar.now.version (drop at bytes.now)) (drop next bytes.now) script.old.sections script.new.sections) }
+    ensures ok { IfOk result (Takes grammar.now (line_at grammar.now bytes.now at) bytes.now script.old script.new) }
     ensures further { IfOk result (λ next. at < next) }
     ensures within { IfOk result (λ next. next ≤ length bytes.now) }
     ensures version { OnOk result (script.new.version ≡ script.old.version) }
     ensures knows { OnOk result (Knows spawns.new.named spawns.new.own (place_in script.new.sections)) }
-    ensures fault { IfErr result (λ e. IsFaultUnlessMemory e (fault_of_said grammar.now.version grammar.now.domains line (place_in script.old.sections) (line_said grammar.now.version (drop at bytes.now)))) }
+    ensures fault { IfErr result (IsFaultOf grammar.now line script.old (line_at grammar.now bytes.now at)) }
 {
     match rare_command(grammar, script, bytes, at) {
         Some((command, next)) => match script.push(command) {
@@ -330,12 +329,12 @@ pub(crate) fn take_line(
     requires within { at ≤ length bytes.now }
     requires domains { grammar.now.domains < 2 ^ 32 }
     requires knows { Knows spawns.old.named spawns.old.own (place_in script.old.sections) }
-    ensures ok { IfOk result (λ next. TakesSaid grammar.now.version grammar.now.domains (line_said grammar.now.version (drop at bytes.now)) (drop next bytes.now) script.old.sections script.new.sections) }
+    ensures ok { IfOk result (Takes grammar.now (line_at grammar.now bytes.now at) bytes.now script.old script.new) }
     ensures further { IfOk result (λ next. at < next) }
     ensures within { IfOk result (λ next. next ≤ length bytes.now) }
     ensures version { OnOk result (script.new.version ≡ script.old.version) }
     ensures knows { OnOk result (Knows spawns.new.named spawns.new.own (place_in script.new.sections)) }
-    ensures fault { IfErr result (λ e. IsFaultUnlessMemory e (fault_of_said grammar.now.version grammar.now.domains line (place_in script.old.sections) (line_said grammar.now.version (drop at bytes.now)))) }
+    ensures fault { IfErr result (IsFaultOf grammar.now line script.old (line_at grammar.now bytes.now at)) }
 {
     match common_command(grammar, script, bytes, at) {
         Some((command, next)) => match script.push(command) {

@@ -39,7 +39,9 @@ macro_rules! with_first_words {
 
 // The words of the grammar of each version. Each has an array of its own, so that the search goes over known words.
 const FIRST_WORDS: [Word; 22] = with_first_words![];
+
 const SECOND_WORDS: [Word; 24] = with_first_words![Raw, Cas];
+
 const THIRD_WORDS: [Word; 28] = with_first_words![Raw, Cas, Spawn, Argument, Result, Join];
 
 // The word that a row's line begins with.

@@ -133,12 +133,13 @@ module _ (domains : ℕ) where
       subst (λ (k : ℕ). AreFitting k (get_or sections d [])) same
       (fits_sections (n + 1) (fold called (opened p) cs) sections (headings_kept (opened p) cs ∙ ap (λ k. k + 1) is) w.1 g.1 d)
 
+-- the sections that are left empty change nothing of this
 none_further : (k d : ℕ) → ◌≡◌ {A = List Command} (get_or (replicate k []) d []) []
 none_further zero d = refl
 none_further (suc k) zero = refl
 none_further (suc k) (suc d) = none_further k d
 
-with_further : (sections : List (List Command)) (k d : ℕ) → get_or (sections ++ replicate k []) d [] ≡ get_or sections d []
+pub with_further : (sections : List (List Command)) (k d : ℕ) → get_or (sections ++ replicate k []) d [] ≡ get_or sections d []
 with_further [] k d = none_further k d
 with_further (cs ∷ sections) k zero = refl
 with_further (cs ∷ sections) k (suc d) = with_further sections k d
