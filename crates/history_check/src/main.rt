@@ -41,8 +41,35 @@ enum Outcome {
     Usage,
     Judged(Judged),
     NoSchedule,
-    Replay(JudgedReplay),
-    Table(JudgedTable),
+    Replay(ReplayFault),
+}
+
+// What came of a replay. An output that differs is one for which there is no history.
+fn outcome_of_replay(judged: JudgedReplay) -> Outcome {
+    match judged {
+        JudgedReplay::Legal => Outcome::Judged(Judged::Legal),
+        JudgedReplay::Differs { .. } => Outcome::Judged(Judged::NoneFound),
+        JudgedReplay::Replay(fault) => Outcome::Replay(fault),
+        JudgedReplay::NoSeparator => Outcome::Judged(Judged::NoSeparator),
+        JudgedReplay::TooLong => Outcome::Judged(Judged::TooLong),
+        JudgedReplay::ReadFault => Outcome::Judged(Judged::ReadFault),
+        JudgedReplay::WriteFault => Outcome::Judged(Judged::WriteFault),
+        JudgedReplay::Memory => Outcome::Judged(Judged::Memory),
+    }
+}
+
+// What came of a table's text.
+fn judged_as(judged: JudgedTable) -> Judged {
+    match judged {
+        JudgedTable::Legal => Judged::Legal,
+        JudgedTable::NoneFound { .. } => Judged::NoneFound,
+        JudgedTable::Text(fault) => Judged::Script(fault),
+        JudgedTable::NoSeparator => Judged::NoSeparator,
+        JudgedTable::TooLong => Judged::TooLong,
+        JudgedTable::ReadFault => Judged::ReadFault,
+        JudgedTable::WriteFault => Judged::WriteFault,
+        JudgedTable::Memory => Judged::Memory,
+    }
 }
 
 // The words behind the program's name.
@@ -132,7 +159,7 @@ fn judge_text<S: Source, K: Sink>(alloc: Global, asked: &Asked, src: &mut S, out
         let domains = asked.sizes.domains;
         Outcome::Judged(judge_sections(alloc, domains, asked.states, src, out))
     } else {
-        Outcome::Table(judge_table(alloc, &alone(&asked.sizes), src, out))
+        Outcome::Judged(judged_as(judge_table(alloc, &alone(&asked.sizes), src, out)))
     }
 }
 
@@ -147,7 +174,7 @@ fn judge_by<S: Source, K: Sink>(
     requires { IsWithinLimits asked.now.sizes }
 {
     if front == REPLAY {
-        Outcome::Replay(judge_replay(rt.alloc(), &asked.sizes, src, out))
+        outcome_of_replay(judge_replay(rt.alloc(), &asked.sizes, src, out))
     } else if front.starts_with(TABLE) {
         judge_text(rt.alloc(), asked, src, out)
     } else {
@@ -181,32 +208,6 @@ fn tell_replay_fault(rt: &HostRuntime, fault: ReplayFault) -> io::Result<()> {
     }
 }
 
-// Says what went wrong with a replay.
-fn tell_replay(rt: &HostRuntime, judged: JudgedReplay) -> io::Result<()> {
-    match judged {
-        JudgedReplay::Legal | JudgedReplay::Differs { .. } => Ok(()),
-        JudgedReplay::Replay(fault) => tell_replay_fault(rt, fault),
-        JudgedReplay::NoSeparator => tell_judged(rt, Judged::NoSeparator),
-        JudgedReplay::TooLong => tell_judged(rt, Judged::TooLong),
-        JudgedReplay::ReadFault => tell_judged(rt, Judged::ReadFault),
-        JudgedReplay::WriteFault => tell_judged(rt, Judged::WriteFault),
-        JudgedReplay::Memory => tell_judged(rt, Judged::Memory),
-    }
-}
-
-// Says what went wrong with a table.
-fn tell_table(rt: &HostRuntime, judged: JudgedTable) -> io::Result<()> {
-    match judged {
-        JudgedTable::Legal | JudgedTable::NoneFound { .. } => Ok(()),
-        JudgedTable::Text(fault) => eprintln!(rt; "{fault}"),
-        JudgedTable::NoSeparator => tell_judged(rt, Judged::NoSeparator),
-        JudgedTable::TooLong => tell_judged(rt, Judged::TooLong),
-        JudgedTable::ReadFault => tell_judged(rt, Judged::ReadFault),
-        JudgedTable::WriteFault => tell_judged(rt, Judged::WriteFault),
-        JudgedTable::Memory => tell_judged(rt, Judged::Memory),
-    }
-}
-
 // Says what went wrong with a script.
 fn tell_judged(rt: &HostRuntime, judged: Judged) -> io::Result<()> {
     match judged {
@@ -230,32 +231,7 @@ fn tell(rt: &HostRuntime, outcome: Outcome) -> io::Result<()> {
         }
         Outcome::NoSchedule => eprintln!(rt; "history_check: the history has no schedule"),
         Outcome::Judged(judged) => tell_judged(rt, judged),
-        Outcome::Replay(judged) => tell_replay(rt, judged),
-        Outcome::Table(judged) => tell_table(rt, judged),
-    }
-}
-
-// The same of a replay.
-fn replay_number(judged: JudgedReplay) -> u8 {
-    match judged {
-        JudgedReplay::Legal => 0,
-        JudgedReplay::Replay(_) | JudgedReplay::NoSeparator | JudgedReplay::TooLong => 2,
-        JudgedReplay::ReadFault => 3,
-        JudgedReplay::WriteFault => 4,
-        JudgedReplay::Memory => 5,
-        JudgedReplay::Differs { .. } => 6,
-    }
-}
-
-// And of a table.
-fn table_number(judged: JudgedTable) -> u8 {
-    match judged {
-        JudgedTable::Legal => 0,
-        JudgedTable::Text(_) | JudgedTable::NoSeparator | JudgedTable::TooLong => 2,
-        JudgedTable::ReadFault => 3,
-        JudgedTable::WriteFault => 4,
-        JudgedTable::Memory => 5,
-        JudgedTable::NoneFound { .. } => 6,
+        Outcome::Replay(fault) => tell_replay_fault(rt, fault),
     }
 }
 
@@ -271,8 +247,7 @@ fn status_number(outcome: Outcome) -> u8 {
         Outcome::Judged(Judged::NoneFound) => 6,
         Outcome::Judged(Judged::GaveUp) => 7,
         Outcome::NoSchedule => 8,
-        Outcome::Replay(judged) => replay_number(judged),
-        Outcome::Table(judged) => table_number(judged),
+        Outcome::Replay(_) => 2,
     }
 }
 
