@@ -27,6 +27,15 @@ place_here s d r i x p here =
     let same : ◌≡◌ {A = Label × Node} (p.label, p.place.node) x = sym (get_or_from_slice_get s.graph i _ x p.place.stands) ∙ sym here in
     subst (λ l. IsPlaceOf s.graph l i) (ap (λ (y : Label × Node). y.0) same) p.place
 
+-- both of the block that a scan found
+pub record FoundBlock (s : State) (d r i : ℕ) (x : Label × Node) : Type 0 where
+  pub here : x ≡ get_or s.graph i x
+  pub block : block_in s d r ≡ Some x
+  pub place : IsPlaceOf s.graph x.0 i
+
+pub found_block : (s : State) (d r i : ℕ) (x : Label × Node) → IsPlaceInRegister s d r i → x ≡ get_or s.graph i x → FoundBlock s d r i x
+found_block s d r i x p here = record { here = here; block = block_in_place s d r i x p here; place = place_here s d r i x p here }
+
 -- what a write answers, and the state that it leaves, by the block that it finds
 module _ (s : State) (l : Label) (i : ℕ) (place : IsPlaceOf s.graph l i) where
   abbrev pub left_with : Node → State

@@ -1,7 +1,8 @@
 -- Rising places of a list, read from the last to the first.
-use Rattle.std.proofs.Common.{◌≡◌, ℕ, zero, suc, ◌+◌, ◌-◌, ◌<◌, ◌≤◌, true, List, [], ◌∷◌, ◌++◌, map, reverse, remove, drop, take, length, get_or, filter_map, slice_get, option_to_list, Option, Some, refl, ap, sym, ◌∙◌, arith, append_assoc, add-one}
+use Rattle.std.proofs.Common.{◌≡◌, ℕ, zero, suc, ◌+◌, ◌-◌, ◌<◌, ◌≤◌, true, List, [], ◌∷◌, ◌++◌, map, reverse, remove, drop, take, length, get_or, set, filter_map, slice_get, option_to_list, Option, Some, refl, ap, sym, ◌∙◌, subst, arith, append_assoc, add-one}
 use Rattle.std.proofs.Math.Seq.{drop-cons, drop-nil}
 use Rattle.std.proofs.lemmas.List.{reverse-append}
+use Rattle.std.proofs.lemmas.List.Edits.{map_over_more}
 use Rattle.std.proofs.lemmas.List.Elements.{filter_map-append}
 use Rattle.model_core.specs.declared.label.Label.{Label}
 use Rattle.model_core.proofs.Graphs.ListLemmas.{filter_map_more}
@@ -70,3 +71,8 @@ keys_one_more keys ps i within =
     let each : Option Label → Option Label = λ k. k in
     ap (filter_map each) (filter_map_more (slice_get keys) ps i 0 within)
     ∙ filter_map-append each (at_places (take i ps) keys) (option_to_list (slice_get keys (get_or ps i 0)))
+
+-- the domains so far have changed, and so has the next one
+pub changed_more : (f : DomainState → DomainState) (xs ys : List DomainState) (i : ℕ) (x : DomainState) → i < length xs → ys ≡ map f (take i xs) ++ drop i xs → x ≡ get_or ys i x
+    → set ys i (f (get_or ys i x)) ≡ map f (take (i + 1) xs) ++ drop (i + 1) xs
+changed_more f xs ys i x within so_far here = map_over_more f xs ys i (get_or ys i x) within so_far (subst (λ (z : DomainState). z ≡ get_or ys i z) here here)

@@ -16,8 +16,10 @@ mod entries;
 mod ephemerons;
 mod fields;
 mod finalisers;
+mod looks;
 mod opened;
 mod opening;
+mod own;
 mod queueing;
 mod reach;
 mod registers;
@@ -73,6 +75,20 @@ impl SlowHeap {
         };
         let state = opening::opening_state(alloc, sizes)?;
         Ok(SlowHeap { alloc, state })
+    }
+
+    /// The same heap, of these sizes.
+    pub fn of_sizes(alloc: Global, sizes: &Sizes) -> Result<SlowHeap, AllocError>
+        requires { IsWithinLimits sizes.now }
+        ensures { IfOk result (λ h. h ≡ opening sizes.now) }
+    {
+        SlowHeap::make(
+            alloc,
+            sizes.domains,
+            sizes.pools,
+            sizes.minor_words,
+            sizes.classes,
+        )
     }
 
     /// The state that the entries so far leave.

@@ -1,22 +1,21 @@
 //! Finalisers that a collection queues, and those that run.
 ghost use Rattle.std.specs.Prelude.{◌≡◌, ◌≢◌, ◌++◌, ◌∷◌, [], ◌<◌, ◌&&◌, IfOk, OnOk, OnErr, IsTrue, ◌↔◌, map, reverse, drop, remove, length, not, nat_lt, slice_get, Some};
-ghost use Rattle.std.specs.List.{list_all, list_any};
-ghost use Rattle.model_core.specs.Graph.{has_label, node_at};
+ghost use Rattle.std.specs.List.{list_all};
+ghost use Rattle.model_core.specs.Graph.{has_label};
 ghost use Rattle.model_core.specs.Domains.{domain_at, with_domain, queues, roots, settled_reach};
 ghost use Rattle.model_core.specs.Reach.{reachable};
-ghost use Rattle.model_core.specs.Entries.{next, is_rising as rises, is_some_and, without_places, at_places, queued_final, with_queued, without_first, ephe_holds, is_label as label_is, QueueAllowed, LastAllowed, RanAllowed};
+ghost use Rattle.model_core.specs.Entries.{next, is_rising as rises, is_some_and, without_places, at_places, queued_final, with_queued, without_first, QueueAllowed, LastAllowed, RanAllowed};
 ghost use Rattle.judge_plain.specs.Follows.{Follows};
 
-use crate::blocks::place_of;
-use crate::reach::{holds_label, label};
+use crate::looks::{is_dead_at, is_gone_at};
 use crate::registers::set_register;
 use crate::roots::{reach_at_cut, settled};
 use model_core::entry::{Entry, Places};
-use model_core::graph::{Node, Value};
+use model_core::graph::Value;
 use model_core::label::Label;
 use model_core::reply::{Applied, ApplyFault, Reply};
 use model_core::sequence::{Sequence, at, with_last};
-use model_core::state::{DomainState, Finaliser, LastFinaliser, Mode, Pending, State};
+use model_core::state::{DomainState, Finaliser, Mode, Pending, State};
 use std::alloc::{AllocError, Global};
 
 // The entry that queues registrations of `finalise`.
@@ -84,16 +83,6 @@ fn are_dead(places: &Places, finals: &Sequence<Finaliser>, live: &Vec<Label>) ->
         .items
         .iter()
         .all(|p| is_dead_at(finals, *p as usize, live))
-}
-
-// Whether a registration stands at a place, and its value is dead.
-fn is_dead_at(finals: &Sequence<Finaliser>, place: usize, live: &Vec<Label>) -> bool
-    ensures { result ≡ is_some_and (λ f. not (has_label live.now.items f.label)) (slice_get finals.now place) }
-{
-    match finals.items.get(place) {
-        Some(f) => !holds_label(live, f.label),
-        None => false,
-    }
 }
 
 // A domain's queue with the registrations at these places, the last first.
@@ -190,67 +179,7 @@ fn is_last_allowed(state: &State, d: usize, place: u32, live: &Vec<Label>) -> bo
     let domain = &domains.items[d];
     state.mode == Mode::Sealed
         && u64::from(place) < domain.low
-        && is_last_dead(state, &domain.lasts, place as usize, live)
-}
-
-// Whether a registration stands at a place, its value is dead, and no live ephemeron has it.
-fn is_last_dead(
-    state: &State,
-    lasts: &Sequence<LastFinaliser>,
-    place: usize,
-    live: &Vec<Label>,
-) -> bool
-    ensures { result ≡ is_some_and (λ f. not (has_label live.now.items f.label) && list_all (λ x. not (ephe_holds f.label (node_at state.now.graph x))) live.now.items) (slice_get lasts.now place) }
-{
-    match lasts.items.get(place) {
-        Some(f) => !holds_label(live, f.label) && is_held_by_none(state, live, f.label),
-        None => false,
-    }
-}
-
-// Whether none of these blocks is an ephemeron with the label as a key or as its data.
-fn is_held_by_none(state: &State, live: &Vec<Label>, l: Label) -> bool
-    ensures { result ≡ list_all (λ x. not (ephe_holds l (node_at state.now.graph x))) live.now.items }
-{
-    live.iter().all(|x| !is_held_by(state, *x, l))
-}
-
-// Whether the block x is an ephemeron with the label l as a key or as its data.
-fn is_held_by(state: &State, x: Label, l: Label) -> bool
-    ensures { result ≡ ephe_holds l (node_at state.now.graph x) }
-{
-    let graph = &state.graph;
-    match place_of(graph, x) {
-        None => false,
-        Some(i) => holds(&graph.items[i].1, l),
-    }
-}
-
-// Whether a block is an ephemeron with the label as a key or as its data.
-fn holds(node: &Node, l: Label) -> bool
-    ensures { result ≡ ephe_holds l (Some node.now) }
-{
-    match node {
-        Node::Plain { .. } | Node::Raw { .. } => false,
-        Node::Ephe { keys, datum } => has_key(keys, l) || is_label(label(*datum), l),
-    }
-}
-
-// Whether a label is among the keys.
-fn has_key(keys: &Sequence<Option<Label>>, l: Label) -> bool
-    ensures { result ≡ list_any (label_is l) keys.now }
-{
-    keys.items.iter().any(|key| is_label(*key, l))
-}
-
-// Whether there is a label, and it is this one.
-fn is_label(key: Option<Label>, l: Label) -> bool
-    ensures { result ≡ label_is l key }
-{
-    match key {
-        None => false,
-        Some(k) => k == l,
-    }
+        && is_gone_at(&state.graph, &domain.lasts, place as usize, live)
 }
 
 // The registration at a place leaves its list and joins the queue.

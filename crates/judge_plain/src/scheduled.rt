@@ -2,7 +2,6 @@
 mod compare;
 mod keys;
 mod lasts;
-mod looks;
 mod places;
 mod queues;
 mod run;

@@ -7,8 +7,9 @@ ghost use Rattle.model_core.specs.Entries.{is_some_and, at_places, wiped_keys, k
 ghost use Rattle.judge_plain.specs.Follows.{Follows};
 
 use crate::blocks::place_of;
+use crate::looks::is_gone_key;
 use crate::queueing::is_rising;
-use crate::reach::{holds_label, push_label};
+use crate::reach::push_label;
 use crate::roots::settled;
 use model_core::entry::{Entry, Places};
 use model_core::graph::{Node, Value};
@@ -74,16 +75,6 @@ fn are_gone_keys(keys: &Sequence<Option<Label>>, places: &Places, live: &Vec<Lab
         .items
         .iter()
         .all(|p| is_gone_key(keys, *p as usize, live))
-}
-
-// Whether a key is full and gone.
-fn is_gone_key(keys: &Sequence<Option<Label>>, place: usize, live: &Vec<Label>) -> bool
-    ensures { result ≡ is_some_and (is_some_and (λ l. not (has_label live.now.items l))) (slice_get keys.now place) }
-{
-    match keys.items.get(place) {
-        Some(Some(l)) => !holds_label(live, *l),
-        _ => false,
-    }
 }
 
 // The labels that were taken, with those of these keys.

@@ -1,1 +1,2 @@
 pub mod FrontAndRest
+pub mod WritingLemmas

@@ -12,6 +12,7 @@ mod source;
 mod std_sink;
 mod std_source;
 mod sure_source;
+mod writing;
 
 pub use failed::Failed;
 pub use gate::{Gate, NoGate};
@@ -23,3 +24,4 @@ pub use source::Source;
 pub use std_sink::StdSink;
 pub use std_source::StdSource;
 pub use sure_source::SureSource;
+pub use writing::write_all;

@@ -12,25 +12,12 @@ use Rattle.model_core.specs.Output.{line, printed, section_text}
 use Rattle.text_script.specs.Spelling.{heading_text}
 use Rattle.judge_plain.specs.History.Steps.{is_end_of, Does}
 use Rattle.judge_plain.specs.History.Explains.{Explains, ExplainsFront}
+use Rattle.judge_plain.proofs.OfScheduled.ListLemmas.{flat_map_more}
 
 -- where there is something, the second fact holds
 pub if_some : {A : Type 0} (P : Type 0) (Q : A → Type 0) (r : Option A) → MatchOption r P Q → IfSome r Q
 if_some P Q None h = tt
 if_some P Q (Some x) h = h
-
--- one more number of a range
-pub flat-range : (f : ℕ → List ℕ) (a n : ℕ) → flat_map f (range_with_len a (suc n)) ≡ flat_map f (range_with_len a n) ++ f (a + n)
-flat-range f a zero =
-    let e : a ≡ a + 0 = omega arith in
-    append-nil (f a) ∙ ap f e
-flat-range f a (suc n) =
-    let e : a + 1 + n ≡ a + suc n = omega arith in
-    ap (λ t. f a ++ t) (flat-range f (a + 1) n)
-    ∙ sym (append_assoc (f a) (flat_map f (range_with_len (a + 1) n)) (f (a + 1 + n)))
-    ∙ ap (λ k. (f a ++ flat_map f (range_with_len (a + 1) n)) ++ f k) e
-
-pub flat-range_more : (f : ℕ → List ℕ) (n : ℕ) → flat_map f (range_with_len 0 (n + 1)) ≡ flat_map f (range_with_len 0 n) ++ f n
-flat-range_more f n = rw (add-one n) (flat-range f 0 n ∙ ap (λ k. flat_map f (range_with_len 0 n) ++ f k) (zero-add n))
 
 -- no section yet
 pub explains_nothing : (z : Sizes) (sections : List (List Command)) (bytes : List ℕ) (h : List Entry) → ExplainsFront z sections bytes h 0 bytes
@@ -57,7 +44,7 @@ explains_more z sections bytes h d section rs rest behind before is does reads =
       bytes_are = before.bytes_are
           ∙ ap (λ x. flat_map (section_text z h) (range_with_len 0 d) ++ x) texts
           ∙ sym (append_assoc (flat_map (section_text z h) (range_with_len 0 d)) (section_text z h d) behind)
-          ∙ ap (λ x. x ++ behind) (sym (flat-range_more (section_text z h) d));
+          ∙ ap (λ x. x ++ behind) (sym (flat_map_more (section_text z h) d));
     }
 
 -- all sections

@@ -11,21 +11,8 @@ use Rattle.model_core.specs.Output.{line, printed}
 use Rattle.text_script.specs.Spelling.{heading_text}
 use Rattle.model_traces.specs.Spawns.Hidden.{prelude}
 use Rattle.model_traces.specs.Spawns.Printed.{printed_replies, spawning_section_text}
+use Rattle.judge_plain.proofs.OfScheduled.ListLemmas.{flat_map_more}
 use Rattle.judge_plain.specs.Spawned.Explains.{ExplainsSpawning, ExplainsSpawningFront, Makes}
-
--- one more number of a range
-flat-range : (f : ℕ → List ℕ) (a n : ℕ) → flat_map f (range_with_len a (suc n)) ≡ flat_map f (range_with_len a n) ++ f (a + n)
-flat-range f a zero =
-    let e : a ≡ a + 0 = omega arith in
-    append-nil (f a) ∙ ap f e
-flat-range f a (suc n) =
-    let e : a + 1 + n ≡ a + suc n = omega arith in
-    ap (λ t. f a ++ t) (flat-range f (a + 1) n)
-    ∙ sym (append_assoc (f a) (flat_map f (range_with_len (a + 1) n)) (f (a + 1 + n)))
-    ∙ ap (λ k. (f a ++ flat_map f (range_with_len (a + 1) n)) ++ f k) e
-
-flat-range_more : (f : ℕ → List ℕ) (n : ℕ) → flat_map f (range_with_len 0 (n + 1)) ≡ flat_map f (range_with_len 0 n) ++ f n
-flat-range_more f n = rw (add-one n) (flat-range f 0 n ∙ ap (λ k. flat_map f (range_with_len 0 n) ++ f k) (zero-add n))
 
 pub spawning_nothing : (z : Sizes) (script : List (List Command)) (bytes : List ℕ) (h behind : List Entry) → ExplainsSpawningFront z script bytes h behind 0 bytes
 spawning_nothing z script bytes h behind = record { each = λ d k. absurd (omega (arith, k)); bytes_are = refl }
@@ -37,7 +24,7 @@ spawning_more z script bytes h behind d rs rest more before makes replies reads 
   bytes_are = before.bytes_are
       ∙ ap (λ (t : List ℕ). flat_map (spawning_section_text z h) (range_with_len 0 d) ++ t) (reads ∙ ap (λ (xs : List Reply). (line (heading_text d) ++ printed xs) ++ more) replies)
       ∙ sym (append_assoc (flat_map (spawning_section_text z h) (range_with_len 0 d)) (spawning_section_text z h d) more)
-      ∙ ap (λ (t : List ℕ). t ++ more) (sym (flat-range_more (spawning_section_text z h) d));
+      ∙ ap (λ (t : List ℕ). t ++ more) (sym (flat_map_more (spawning_section_text z h) d));
 }
 
 pub spawning_all : (z : Sizes) (script : List (List Command)) (bytes : List ℕ) (h behind : List Entry) (n : ℕ) (rest : List ℕ) → 1 ≤ z.domains → h ≡ prelude z.domains ++ behind → n ≡ z.domains → ExplainsSpawningFront z script bytes h behind n rest → rest ≡ []

@@ -1,54 +1,16 @@
 //! What one domain does in a history.
-ghost use Rattle.std.specs.Prelude.{◌≡◌, ◌≤◌, ◌++◌, ◌||◌, List, IfOk, OnOk, IfSome, IfNone, length, slice_get, take};
+ghost use Rattle.std.specs.Prelude.{◌≡◌, ◌≤◌, ◌++◌, List, IfOk, IfSome, IfNone, length, slice_get, take};
 ghost use Rattle.model_core.specs.declared.command.Command.{Command as declared_command};
-ghost use Rattle.model_core.specs.History.{command_of, is_entry_of};
-ghost use Rattle.judge_plain.specs.History.Steps.{answers, Does, MakesAndEnds, is_end_of as ends_in, own_replies};
+ghost use Rattle.model_core.specs.History.{command_of};
+ghost use Rattle.judge_plain.specs.History.Steps.{answers, Does, MakesAndEnds};
 
 use crate::history::command::same_command;
+use crate::own::{add_reply, has_ended, is_own};
 use model_core::command::Command;
 use model_core::entry::Entry;
 use model_core::reply::{Applied, Reply};
 use model_core::state::Sizes;
 use std::alloc::{AllocError, Global};
-
-// Whether an entry is a command, the end or a run finaliser of a domain.
-fn is_own(d: u32, entry: &Entry) -> bool
-    ensures { result ≡ is_entry_of d entry.now }
-{
-    match entry {
-        Entry::Command { domain, .. } => *domain == d,
-        Entry::End { domain } => *domain == d,
-        Entry::Ran { domain } => *domain == d,
-        _ => false,
-    }
-}
-
-// Whether an entry is the end of a domain.
-fn is_end(d: u32, entry: &Entry) -> bool
-    ensures { result ≡ ends_in d entry.now }
-{
-    match entry {
-        Entry::End { domain } => *domain == d,
-        _ => false,
-    }
-}
-
-// Adds the reply of an entry, where it is the domain's and has one.
-fn add_reply(
-    replies: &mut Vec<Reply>,
-    d: u32,
-    entry: &Entry,
-    applied: Applied,
-) -> Result<(), AllocError>
-    ensures { OnOk result (replies.new.items ≡ replies.old.items ++ own_replies d entry.now applied) }
-{
-    if is_own(d, entry) {
-        if let Applied::Replied(reply) = applied {
-            replies.push(reply)?;
-        }
-    }
-    Ok(())
-}
 
 // How many commands of its section a domain has made after an entry. `None`: the entry is another command than the next.
 fn count_made(section: &[Command], made: usize, d: u32, entry: &Entry) -> Option<usize>
@@ -72,13 +34,6 @@ fn count_made(section: &[Command], made: usize, d: u32, entry: &Entry) -> Option
         }
         _ => Some(made),
     }
-}
-
-// Whether a domain has ended after an entry.
-fn has_ended(ended: bool, d: u32, entry: &Entry) -> bool
-    ensures { result ≡ (ended || ends_in d entry.now) }
-{
-    ended || is_end(d, entry)
 }
 
 // What the entry at a place answers.
@@ -109,7 +64,7 @@ pub(crate) fn read_domain(
         let Some(applied) = answer_at(told, i) else {
             return Ok(None);
         };
-        add_reply(&mut replies, d, entry, applied)?;
+        add_reply(&mut replies, is_own(d, entry), applied)?;
         let Some(count) = count_made(section, made, d, entry) else {
             return Ok(None);
         };

@@ -38,13 +38,7 @@ pub(crate) fn play(
     ensures answers { IfOk result (λ o. IfSome o (λ v. v.items ≡ answers sizes.now history.now)) }
     ensures illegal { IfOk result (λ o. IfNone o (length history.now < 2 ^ 32 → Legal sizes.now history.now → ⊥)) }
 {
-    let mut heap = SlowHeap::make(
-        alloc,
-        sizes.domains,
-        sizes.pools,
-        sizes.minor_words,
-        sizes.classes,
-    )?;
+    let mut heap = SlowHeap::of_sizes(alloc, sizes)?;
     let mut told = Vec::new(alloc);
     for entry in history {
         let Some(applied) = follow(&mut heap, entry)? else {

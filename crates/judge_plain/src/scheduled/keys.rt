@@ -8,7 +8,8 @@ ghost use Rattle.model_traces.specs.Schedules.Scheduled.{all_wiped as wiped_in, 
 ghost use Rattle.judge_plain.specs.Scheduled.Wipes.{label_at, wipes_of};
 
 use crate::SlowHeap;
-use crate::scheduled::looks::{holds_label, node_of};
+use crate::looks::node_of;
+use crate::reach::holds_label;
 use crate::scheduled::places::key_places;
 use model_core::entry::{Entry, Places};
 use model_core::graph::Node;

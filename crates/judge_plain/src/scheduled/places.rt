@@ -5,7 +5,7 @@ ghost use Rattle.model_core.specs.Graph.{has_label, node_at};
 ghost use Rattle.model_core.specs.Entries.{ephe_holds, is_some_and};
 ghost use Rattle.model_traces.specs.Schedules.Scheduled.{places_where};
 
-use crate::scheduled::looks::{is_dead_at, is_gone_at, is_gone_key};
+use crate::looks::{is_dead_at, is_gone_at, is_gone_key};
 use model_core::graph::Node;
 use model_core::label::Label;
 use model_core::sequence::Sequence;

@@ -44,13 +44,7 @@ impl<'a> Run<'a> {
         requires { IsWithinLimits sizes.now }
         ensures { IfOk result (λ r. r ≡ begun sizes.now script.now.sections) }
     {
-        let heap = SlowHeap::make(
-            alloc,
-            sizes.domains,
-            sizes.pools,
-            sizes.minor_words,
-            sizes.classes,
-        )?;
+        let heap = SlowHeap::of_sizes(alloc, sizes)?;
         let mut left = Vec::new(alloc);
         'sections: for d in 0..script.sections() {
             left.push(script.section(d))?;

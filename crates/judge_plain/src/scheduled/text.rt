@@ -1,7 +1,7 @@
 //! What a scheduled history prints.
-ghost use Rattle.std.specs.Prelude.{◌≡◌, ◌++◌, [], cond, IfOk, OnOk, length};
+ghost use Rattle.std.specs.Prelude.{◌≡◌, ◌++◌, IfOk, OnOk, length};
 ghost use Rattle.model_core.specs.Domains.{IsWithinLimits};
-ghost use Rattle.model_core.specs.History.{Legal, is_entry_of, replies, reply_list};
+ghost use Rattle.model_core.specs.History.{Legal, replies};
 ghost use Rattle.model_core.specs.Entries.{Allowed, next, reply};
 ghost use Rattle.model_core.specs.Output.{line, output, printed, reply_text};
 ghost use Rattle.text_script.specs.Spelling.{heading_text};
@@ -9,6 +9,7 @@ ghost use Rattle.model_traces.specs.Schedules.Scheduled.{scheduled};
 ghost use Rattle.model_traces.specs.Scheduled.Runs.{IsPlainScript};
 
 use crate::SlowHeap;
+use crate::own::{add_reply, is_own};
 use crate::scheduled::turns::scheduled_history;
 use model_core::entry::Entry;
 use model_core::reply::{Applied, ApplyFault, Reply};
@@ -16,35 +17,6 @@ use model_core::state::Sizes;
 use model_traces::schedules::Item;
 use std::alloc::{AllocError, Global};
 use text_script::{Line, Script, print_heading, print_reply};
-
-// Whether an entry is a command, the end or a run finaliser of a domain.
-fn is_own(d: u32, entry: &Entry) -> bool
-    ensures { result ≡ is_entry_of d entry.now }
-{
-    match entry {
-        Entry::Command { domain, .. } => *domain == d,
-        Entry::End { domain } => *domain == d,
-        Entry::Ran { domain } => *domain == d,
-        _ => false,
-    }
-}
-
-// Adds the reply of an entry, where it is the domain's and has one.
-fn add_reply(
-    replies: &mut Vec<Reply>,
-    d: u32,
-    entry: &Entry,
-    applied: Applied,
-) -> Result<(), AllocError>
-    ensures { OnOk result (replies.new.items ≡ replies.old.items ++ cond (is_entry_of d entry.now) (reply_list applied) []) }
-{
-    if is_own(d, entry) {
-        if let Applied::Replied(reply) = applied {
-            replies.push(reply)?;
-        }
-    }
-    Ok(())
-}
 
 // Follows an entry that is allowed.
 fn follow(heap: &mut SlowHeap, entry: &Entry) -> Result<Applied, AllocError>
@@ -75,17 +47,11 @@ fn replies_of(
     requires legal { Legal sizes.now history.now }
     ensures { IfOk result (λ v. v.items ≡ replies sizes.now history.now domain) }
 {
-    let mut heap = SlowHeap::make(
-        alloc,
-        sizes.domains,
-        sizes.pools,
-        sizes.minor_words,
-        sizes.classes,
-    )?;
+    let mut heap = SlowHeap::of_sizes(alloc, sizes)?;
     let mut own = Vec::new(alloc);
     'entries: for entry in history {
         let applied = follow(&mut heap, entry)?;
-        add_reply(&mut own, domain, entry, applied)?;
+        add_reply(&mut own, is_own(domain, entry), applied)?;
     }
     Ok(own)
 }

@@ -1,16 +1,15 @@
 //! Plays entries on the slow heap, and notes what one domain does in them.
-ghost use Rattle.std.specs.Prelude.{◌≡◌, ◌<◌, ◌++◌, ◌||◌, [], cond, length, IfOk, OnOk, IfSome};
+ghost use Rattle.std.specs.Prelude.{◌≡◌, ◌++◌, IfOk, OnOk, IfSome};
 ghost use Rattle.model_core.specs.declared.state.State.{State};
 ghost use Rattle.model_core.specs.Domains.{domain_at};
 ghost use Rattle.model_core.specs.Entries.{reply};
-ghost use Rattle.model_core.specs.History.{reply_list};
-ghost use Rattle.judge_plain.specs.History.Steps.{is_end_of as ends_in};
 ghost use Rattle.model_traces.specs.Spawns.Expansion.{step_of};
 ghost use Rattle.model_traces.specs.Spawns.Printed.{is_printed_entry as is_told_entry};
 ghost use Rattle.judge_plain.specs.Spawned.Told.{Tells};
 
 use crate::SlowHeap;
 use crate::history::follow;
+use crate::own::{add_reply, has_ended};
 use crate::spawned::made::Made;
 use crate::spawned::printing::is_printed;
 use model_core::entry::Entry;
@@ -41,23 +40,6 @@ fn is_printed_entry(d: u32, entry: &Entry) -> bool
         Entry::Ran { domain } => *domain == d,
         _ => false,
     }
-}
-
-// Whether an entry is the end of a domain.
-fn is_end(d: u32, entry: &Entry) -> bool
-    ensures { result ≡ ends_in d entry.now }
-{
-    match entry {
-        Entry::End { domain } => *domain == d,
-        _ => false,
-    }
-}
-
-// Whether a domain has ended after an entry.
-fn has_ended(ended: bool, d: u32, entry: &Entry) -> bool
-    ensures { result ≡ (ended || ends_in d entry.now) }
-{
-    ended || is_end(d, entry)
 }
 
 // A copy of what the registers of a domain hold.
@@ -99,23 +81,6 @@ fn add_step(
     Ok(())
 }
 
-// Adds the reply of an entry, where it is printed in the domain's section.
-fn add_reply(
-    replies: &mut Vec<Reply>,
-    d: u32,
-    entry: &Entry,
-    applied: Applied,
-) -> Result<(), AllocError>
-    ensures { OnOk result (replies.new.items ≡ replies.old.items ++ cond (is_told_entry d entry.now) (reply_list applied) []) }
-{
-    if is_printed_entry(d, entry) {
-        if let Applied::Replied(reply) = applied {
-            replies.push(reply)?;
-        }
-    }
-    Ok(())
-}
-
 /// Plays entries, adds the replies of a domain that are printed, and answers what it has done. `None`: an entry isn't allowed.
 pub(crate) fn play(
     alloc: Global,
@@ -134,7 +99,7 @@ pub(crate) fn play(
             return Ok(None);
         };
         add_step(&mut steps, held, d, entry, applied)?;
-        add_reply(replies, d, entry, applied)?;
+        add_reply(replies, is_printed_entry(d, entry), applied)?;
         ended = has_ended(ended, d, entry);
     }
     Ok(Some(Told { steps, ended }))

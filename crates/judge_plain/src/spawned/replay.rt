@@ -45,13 +45,7 @@ fn read_domain(
     ensures makes { IfOk result (λ o. IfSome o (λ v. Makes sizes.now script.now.sections (front.now ++ behind.now) behind.now d)) }
     ensures replies { IfOk result (λ o. IfSome o (λ v. v.items ≡ printed_replies sizes.now (front.now ++ behind.now) d)) }
 {
-    let mut heap = SlowHeap::make(
-        alloc,
-        sizes.domains,
-        sizes.pools,
-        sizes.minor_words,
-        sizes.classes,
-    )?;
+    let mut heap = SlowHeap::of_sizes(alloc, sizes)?;
     let mut replies = Vec::new(alloc);
     let Some(_) = play(alloc, &mut heap, d, front, &mut replies)? else {
         return Ok(None);

@@ -1,17 +1,10 @@
-use Rattle.std.proofs.Common.{◌≡◌, ◌<◌, length, get_or, set, subst, ap, ◌∙◌, arith}
-use Rattle.std.proofs.lemmas.List.Edits.{map_over_more}
-use Rattle.model_core.specs.declared.state.DomainState.{DomainState}
+use Rattle.std.proofs.Common.{◌≡◌, length, get_or, set, ap, ◌∙◌, arith}
 use Rattle.model_core.specs.Entries.{with_finals_open}
+use Rattle.judge_plain.proofs.PlaceLemmas.{changed_more}
 use Rattle.judge_plain.proofs.collections.mark_finals.Goals as goal
 
 pub loop-domain-preserved : goal.loop-domain-preserved
 loop-domain-preserved c =
-    let xs = c.args.domains.now in
-    let ys = c.loop-domain.domain-items in
-    let i = c.loop-domain.domain-index in
-    let x : DomainState = get_or ys i c.domain-item.result in
-    let here : x ≡ get_or ys i x = subst (λ (z : DomainState). z ≡ get_or ys i z) c.domain-item.is c.domain-item.is in
-    let list = ap length (c.deref_mut-domain-items.ensures.value ∙ c.domains.view_is) in
-    let within : i < length xs = omega (arith, list) in
-    let count : c.len.result ≡ length x.finals = c.len.ensures ∙ omega (arith, c.finals.inside.items.ok.0, ap length c.finals.view_is) in
-    (λ j. set ys i (record x { low = count j })) ∙ map_over_more with_finals_open xs ys i x within c.loop-domain.invariant here
+    let count : c.len.result ≡ length (get_or c.loop-domain.domain-items c.loop-domain.domain-index c.domain-item.result).finals = c.len.ensures ∙ omega (arith, c.finals.inside.items.ok.0, ap length c.finals.view_is) in
+    (λ j. set c.loop-domain.domain-items c.loop-domain.domain-index (record (get_or c.loop-domain.domain-items c.loop-domain.domain-index c.domain-item.result) { low = count j }))
+    ∙ changed_more with_finals_open c.args.domains.now c.loop-domain.domain-items c.loop-domain.domain-index c.domain-item.result (omega (arith, ap length (c.deref_mut-domain-items.ensures.value ∙ c.domains.view_is))) c.loop-domain.invariant c.domain-item.is

@@ -1,6 +1,6 @@
 use Rattle.std.proofs.Common.{◌≡◌, drop}
 use Rattle.model_core.specs.Graph.{node_at}
-use Rattle.judge_plain.proofs.scheduled.looks.node_of.Given as goal
+use Rattle.judge_plain.proofs.looks.node_of.Given as goal
 
 -- no block so far has the label
 abbrev pub invariant-loop-block : goal.invariant-loop-block

@@ -1,20 +1,14 @@
 //! Looks into the state of a heap.
 ghost use Rattle.std.specs.Prelude.{◌≡◌, ◌&&◌, not, slice_get, MatchOption, None, Some};
 ghost use Rattle.std.specs.List.{list_all, list_any};
-ghost use Rattle.model_core.specs.Graph.{has_label, label_of, node_at};
+ghost use Rattle.model_core.specs.Graph.{has_label, node_at};
 ghost use Rattle.model_core.specs.Entries.{ephe_holds, is_label as label_is, is_some_and};
 
-use model_core::graph::{Node, Value};
+use crate::reach::{holds_label, label};
+use model_core::graph::Node;
 use model_core::label::Label;
 use model_core::sequence::Sequence;
 use model_core::state::{Finaliser, LastFinaliser};
-
-// Whether a label is in a list.
-pub(crate) fn holds_label(labels: &Vec<Label>, l: Label) -> bool
-    ensures { result ≡ has_label labels.now.items l }
-{
-    labels.iter().any(|k| *k == l)
-}
 
 // The block with a label.
 pub(crate) fn node_of(graph: &Sequence<(Label, Node)>, l: Label) -> Option<&Node>
@@ -104,15 +98,5 @@ fn is_label(key: Option<Label>, l: Label) -> bool
     match key {
         None => false,
         Some(k) => k == l,
-    }
-}
-
-// The label that a value is.
-fn label(value: Value) -> Option<Label>
-    ensures { result ≡ label_of value }
-{
-    match value {
-        Value::Block(l) => Some(l),
-        _ => None,
     }
 }
