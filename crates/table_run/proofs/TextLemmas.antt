@@ -123,54 +123,50 @@ lines_push version z p before s old (x ∷ ls) [] t mid l a u new runs r = absur
 
 pub ran_none : (version : Version) (z : Sizes) (h : List Entry) → Begins version z h → RanTo version z [] [] h
 ran_none version z h b = record {
-  places = b.places;
-  first = h;
-  begins = b.stands.shown;
-  none = b.none;
-  state = opened;
-  last = h;
-  lines_run = (refl, refl);
-  until = record { rest = []; appends = sym (append-nil h) };
+  runs = record {
+    places = b.places;
+    first = h;
+    begins = b.stands.shown;
+    none = b.none;
+    state = opened;
+    last = h;
+    lines_run = (refl, refl);
+    within = record { rest = []; appends = sym (append-nil h) };
+  };
   given = refl;
   left = opened;
   goes = may_same opened;
   stands = b.stands;
 }
 
-pub ran_more : (version : Version) (z : Sizes) (lines : List TableLine) (replies : List LineReply) (now : List Entry) (x : RanTo version z lines replies now) (l : TableLine) (a : LineReply) (new : List Entry) → LineDone version z x.places (lines ++ l ∷ []) l x.left now a new → RanTo version z (lines ++ l ∷ []) (replies ++ a ∷ []) new
-ran_more version z lines replies now x l a new y = record {
-  places = x.places;
-  first = x.first;
-  begins = x.begins;
-  none = x.none;
-  state = y.after;
-  last = y.front;
-  lines_run = lines_push version z x.places [] opened x.first lines replies x.state x.last l a y.after y.front x.lines_run (record {
-    step = record { left = y.runs.step.left; goes = may_twice x.state x.left y.runs.step.left x.goes y.runs.step.goes; does = y.runs.step.does };
-    fresh = makes_before z x.last now l a y.after x.until y.runs.fresh;
-    counted = counted_before version z x.places x.last now l a y.front x.until y.runs.counted;
-    grows = prefix_trans x.last now y.front x.until y.runs.grows;
-    shown = y.runs.shown;
-    refused = y.runs.refused ∙ ap (λ (n : ℕ). n + full_in a) x.given;
-  });
-  until = y.until;
-  given = y.given;
-  left = y.left;
-  goes = y.goes;
-  stands = y.stands;
-}
+pub ran_more : (version : Version) (z : Sizes) (lines : List TableLine) (replies : List LineReply) (now : List Entry) (x : RanTo version z lines replies now) (l : TableLine) (a : LineReply) (new : List Entry) → LineDone version z x.runs.places (lines ++ l ∷ []) l x.left now a new → RanTo version z (lines ++ l ∷ []) (replies ++ a ∷ []) new
+ran_more version z lines replies now x l a new y =
+    let r = x.runs in record {
+      runs = record {
+        places = r.places;
+        first = r.first;
+        begins = r.begins;
+        none = r.none;
+        state = y.after;
+        last = y.front;
+        lines_run = lines_push version z r.places [] opened r.first lines replies r.state r.last l a y.after y.front r.lines_run (record {
+          step = record { left = y.runs.step.left; goes = may_twice r.state x.left y.runs.step.left x.goes y.runs.step.goes; does = y.runs.step.does };
+          fresh = makes_before z r.last now l a y.after r.within y.runs.fresh;
+          counted = counted_before version z r.places r.last now l a y.front r.within y.runs.counted;
+          grows = prefix_trans r.last now y.front r.within y.runs.grows;
+          shown = y.runs.shown;
+          refused = y.runs.refused ∙ ap (λ (n : ℕ). n + full_in a) x.given;
+        });
+        within = y.until;
+      };
+      given = y.given;
+      left = y.left;
+      goes = y.goes;
+      stands = y.stands;
+    }
 
 pub ran_all : (version : Version) (z : Sizes) (lines all : List TableLine) (replies : List LineReply) (now : List Entry) → lines ≡ all → RanTo version z lines replies now → TextRuns version z all replies now
-ran_all version z lines all replies now same x = subst (λ (ls : List TableLine). TextRuns version z ls replies now) same (record {
-  places = x.places;
-  first = x.first;
-  begins = x.begins;
-  none = x.none;
-  state = x.state;
-  last = x.last;
-  lines_run = x.lines_run;
-  within = x.until;
-})
+ran_all version z lines all replies now same x = subst (λ (ls : List TableLine). TextRuns version z ls replies now) same x.runs
 
 -- the next line, and what lines need
 pub take_more : (ls : List TableLine) (i : ℕ) (l : TableLine) → Some l ≡ slice_get ls i → take (i + 1) ls ≡ take i ls ++ l ∷ []
@@ -211,7 +207,7 @@ take_none (l ∷ ls) = refl
 -- the next line, from a state in which the heap stands
 pub ran_line : (version : Version) (z : Sizes) (all : List TableLine) (i : ℕ) (l : TableLine) (replies : List LineReply) (now new : List Entry) (a : LineReply) (left : ℕ) → Some l ≡ slice_get all i → (x : RanTo version z (take i all) replies now) → HasGiven version left (take i all) → LineAnswers version z left l now a new → RanTo version z (take (i + 1) all) (replies ++ a ∷ []) new
 ran_line version z all i l replies now new a left at x given answers =
-    subst (λ (ls : List TableLine). RanTo version z ls (replies ++ a ∷ []) new) (sym (take_more all i l at)) (ran_more version z (take i all) replies now x l a new (answers x.places x.left (take i all) x.stands given))
+    subst (λ (ls : List TableLine). RanTo version z ls (replies ++ a ∷ []) new) (sym (take_more all i l at)) (ran_more version z (take i all) replies now x l a new (answers x.runs.places x.left (take i all) x.stands given))
 
 -- what is known of labels and room, with that line's share
 pub made_more : (version : Version) (all : List TableLine) (i : ℕ) (l : TableLine) → Some l ≡ slice_get all i → all_made version (take (i + 1) all) ≡ all_made version (take i all) + made_by version l

@@ -99,15 +99,8 @@ pub record Begins (version : Version) (z : Sizes) (h : List Entry) : Type 0 wher
 
 -- so many lines of a text were run, and the heap stands for what is left of the machine since
 pub record RanTo (version : Version) (z : Sizes) (lines : List TableLine) (replies : List LineReply) (now : List Entry) : Type 0 where
-  pub places : Places
-  pub first : List Entry
-  pub begins : Shown version z places opened first
-  pub none : refusals first ≡ 0
-  pub state : TableState
-  pub last : List Entry
-  pub lines_run : LinesRun version z places [] opened first lines replies state last
-  pub until : IsPrefix last now
-  pub given : refusals now ≡ refusals last
+  pub runs : TextRuns version z lines replies now
+  pub given : refusals now ≡ refusals runs.last
   pub left : TableState
-  pub goes : MayGo state left
-  pub stands : Stands version z places left now
+  pub goes : MayGo runs.state left
+  pub stands : Stands version z runs.places left now

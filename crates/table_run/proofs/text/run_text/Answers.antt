@@ -53,7 +53,7 @@ pub run_line-requires-clause-stands : goal.run_line-requires-clause-stands
 run_line-requires-clause-stands g c =
     let x = c.lines.invariant.ran in
     subst (λ (v : Version). IsStanding v (g.M.Machine.sizes c.lines.m.machine) (g.M.Machine.front c.lines.m.machine)) (sym c.version-version.ensures)
-    (subst (λ (y : Sizes). IsStanding c.args.text.now.version y (g.M.Machine.front c.lines.m.machine)) (sym c.lines.invariant.same) (record { places = x.places; state = x.left; stands = x.stands }))
+    (subst (λ (y : Sizes). IsStanding c.args.text.now.version y (g.M.Machine.front c.lines.m.machine)) (sym c.lines.invariant.same) (record { places = x.runs.places; state = x.left; stands = x.stands }))
 
 pub lines-preserved : goal.lines-preserved
 lines-preserved g c =
