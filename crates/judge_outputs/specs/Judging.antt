@@ -1,6 +1,5 @@
 -- What the judge has done by the end. Where the source tells its bytes they are those that were read, and where the sink tells its own they have grown by those that were written.
 use Rattle.std.specs.Prelude.{◌≡◌, ℕ, List, Option, Some}
-use Rattle.std.specs.Io.KnownBytes.{Appends}
 use Rattle.model_core.specs.declared.entry.Entry.{Entry}
 use Rattle.model_core.specs.declared.state.Sizes.{Sizes}
 use Rattle.text_script.specs.declared.fault.ScriptFault.{ScriptFault}
@@ -14,7 +13,7 @@ use Rattle.judge_outputs.specs.Answer.{ExplainsScript}
 use Rattle.judge_outputs.specs.Input.{HasParts, HasNoParts}
 use Rattle.judge_outputs.specs.Reading.{IsReadInPart, ReadsAll}
 use Rattle.judge_outputs.specs.Show.{legal_text, none_text, gave_up_text}
-use Rattle.judge_outputs.specs.Writing.{AppendsFront}
+use Rattle.judge_outputs.specs.Written.{Judges, StopsWriting}
 
 -- the bytes are a script, the line between, and an output
 pub record IsInput (domains : ℕ) (bytes : List ℕ) (script : Scripted) (output : List ℕ) : Type 0 where
@@ -52,33 +51,12 @@ Refuses domains bytes NoSeparator = HasNoParts bytes
 Refuses domains bytes Memory = Unit {0}
 Refuses domains bytes _ = ⊥
 
--- the text of the answer was written
-pub record WritesAnswer (z : Sizes) (bytes : List ℕ) (judged : Judged) (before after : Option (List ℕ)) : Type 0 where
-  pub text : List ℕ
-  pub tells : Tells z bytes judged text
-  pub written : Appends before after text
-
--- a front part of the text of some answer was written
-pub record WritesFront (z : Sizes) (bytes : List ℕ) (before after : Option (List ℕ)) : Type 0 where
-  pub judged : Judged
-  pub text : List ℕ
-  pub tells : Tells z bytes judged text
-  pub written : AppendsFront before after text
-
--- the input was read to its end, and the text of its answer was written
-abbrev pub Judges : Sizes → Judged → Option (List ℕ) → Option (List ℕ) → Option (List ℕ) → Option (List ℕ) → Type 0
-Judges z judged left_before left_after before after = ReadsAll (λ bytes. WritesAnswer z bytes judged before after) left_before left_after
-
--- or a front part of it
-abbrev pub StopsWriting : Sizes → Option (List ℕ) → Option (List ℕ) → Option (List ℕ) → Option (List ℕ) → Type 0
-StopsWriting z left_before left_after before after = ReadsAll (λ bytes. WritesFront z bytes before after) left_before left_after
-
 -- what was written by the end, where a text is or a front part of one
 pub record Wrote (z : Sizes) (judged : Judged) (left_before left_after before after : Option (List ℕ)) : Type 0 where
-  pub legal : judged ≡ Legal → Judges z Legal left_before left_after before after
-  pub none_found : judged ≡ NoneFound → Judges z NoneFound left_before left_after before after
-  pub gave_up : judged ≡ GaveUp → Judges z GaveUp left_before left_after before after
-  pub cut : judged ≡ WriteFault → StopsWriting z left_before left_after before after
+  pub legal : judged ≡ Legal → Judges (Tells z) Legal left_before left_after before after
+  pub none_found : judged ≡ NoneFound → Judges (Tells z) NoneFound left_before left_after before after
+  pub gave_up : judged ≡ GaveUp → Judges (Tells z) GaveUp left_before left_after before after
+  pub cut : judged ≡ WriteFault → StopsWriting (Tells z) left_before left_after before after
 
 -- when each answer comes that says what is wrong with the bytes that were read
 pub record FindsFault (domains : ℕ) (judged : Judged) (before after : Option (List ℕ)) : Type 0 where

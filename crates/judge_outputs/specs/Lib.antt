@@ -10,6 +10,6 @@ pub mod Show
 pub mod Tables
 pub mod Turns
 pub mod Scheduling
-pub mod Writing
+pub mod Written
 pub mod Search
 pub mod Texts

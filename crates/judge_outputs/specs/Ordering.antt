@@ -1,6 +1,5 @@
 -- What the judge of outputs of several domains' texts of a table has done by the end.
 use Rattle.std.specs.Prelude.{◌≡◌, ℕ, List, ◌++◌, Option, Some, codes, decimal, flat_map}
-use Rattle.std.specs.Io.KnownBytes.{Appends}
 use Rattle.model_core.specs.Output.{line}
 use Rattle.text_script.specs.declared.fault.ScriptFault.{ScriptFault}
 use Rattle.table_text.specs.Machine.Texts.{line_reply_text}
@@ -13,7 +12,7 @@ use Rattle.judge_outputs.specs.Input.{HasNoParts, HasParts}
 use Rattle.judge_outputs.specs.Reading.{IsReadInPart, ReadsAll}
 use Rattle.judge_outputs.specs.Sections.Answer.{SectionsExplain}
 use Rattle.judge_outputs.specs.Show.{gave_up_text}
-use Rattle.judge_outputs.specs.Writing.{AppendsFront}
+use Rattle.judge_outputs.specs.Written.{Judges, StopsWriting}
 
 -- the bytes are a text of a table with a section for each domain, the line between, and an output
 pub record IsSectionsInput (domains : ℕ) (bytes : List ℕ) (sections : Sections) (output : List ℕ) : Type 0 where
@@ -62,33 +61,12 @@ RefusesSections domains bytes NoSeparator = HasNoParts bytes
 RefusesSections domains bytes Memory = Unit {0}
 RefusesSections domains bytes _ = ⊥
 
--- the text of the answer was written
-pub record WritesSections (domains states : ℕ) (bytes : List ℕ) (judged : Judged) (before after : Option (List ℕ)) : Type 0 where
-  pub text : List ℕ
-  pub tells : TellsSections domains states bytes judged text
-  pub written : Appends before after text
-
--- a front part of the text of some answer was written
-pub record WritesSectionsFront (domains states : ℕ) (bytes : List ℕ) (before after : Option (List ℕ)) : Type 0 where
-  pub judged : Judged
-  pub text : List ℕ
-  pub tells : TellsSections domains states bytes judged text
-  pub written : AppendsFront before after text
-
--- the input was read to its end, and the text of its answer was written
-abbrev pub JudgesSections : ℕ → ℕ → Judged → Option (List ℕ) → Option (List ℕ) → Option (List ℕ) → Option (List ℕ) → Type 0
-JudgesSections domains states judged left_before left_after before after = ReadsAll (λ bytes. WritesSections domains states bytes judged before after) left_before left_after
-
--- or a front part of it
-abbrev pub StopsSections : ℕ → ℕ → Option (List ℕ) → Option (List ℕ) → Option (List ℕ) → Option (List ℕ) → Type 0
-StopsSections domains states left_before left_after before after = ReadsAll (λ bytes. WritesSectionsFront domains states bytes before after) left_before left_after
-
 -- what was written by the end, where a text is or a front part of one
 pub record Wrote (domains states : ℕ) (judged : Judged) (left_before left_after before after : Option (List ℕ)) : Type 0 where
-  pub legal : judged ≡ Legal → JudgesSections domains states Legal left_before left_after before after
-  pub none_found : judged ≡ NoneFound → JudgesSections domains states NoneFound left_before left_after before after
-  pub gave_up : judged ≡ GaveUp → JudgesSections domains states GaveUp left_before left_after before after
-  pub cut : judged ≡ WriteFault → StopsSections domains states left_before left_after before after
+  pub legal : judged ≡ Legal → Judges (TellsSections domains states) Legal left_before left_after before after
+  pub none_found : judged ≡ NoneFound → Judges (TellsSections domains states) NoneFound left_before left_after before after
+  pub gave_up : judged ≡ GaveUp → Judges (TellsSections domains states) GaveUp left_before left_after before after
+  pub cut : judged ≡ WriteFault → StopsWriting (TellsSections domains states) left_before left_after before after
 
 -- when each answer comes that says what is wrong with the bytes that were read
 pub record FindsFault (domains : ℕ) (judged : Judged) (before after : Option (List ℕ)) : Type 0 where

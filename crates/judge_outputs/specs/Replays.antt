@@ -1,6 +1,5 @@
 -- What the judge of replays has done by the end.
 use Rattle.std.specs.Prelude.{◌≡◌, ◌≢◌, ℕ, List, ◌++◌, Option, Some, codes, decimal}
-use Rattle.std.specs.Io.KnownBytes.{Appends}
 use Rattle.model_core.specs.declared.state.Sizes.{Sizes}
 use Rattle.model_core.specs.Output.{line, output}
 use Rattle.model_traces.specs.Schedules.Scheduled.{scheduled}
@@ -11,7 +10,7 @@ use Rattle.judge_outputs.specs.declared.replaying.JudgedReplay.{JudgedReplay}
 use Rattle.judge_outputs.specs.declared.replaying.JudgedReplay.TheVariants.{Legal, Differs, Replay, NoSeparator, TooLong, Memory, ReadFault, WriteFault}
 use Rattle.judge_outputs.specs.Input.{HasNoParts, HasParts}
 use Rattle.judge_outputs.specs.Reading.{IsReadInPart, ReadsAll}
-use Rattle.judge_outputs.specs.Writing.{AppendsFront}
+use Rattle.judge_outputs.specs.Written.{Judges, StopsWriting}
 
 -- the bytes are a replay for a heap of these sizes, the line between, and an output
 pub record IsReplayInput (z : Sizes) (bytes : List ℕ) (r : Replayed) (shown : List ℕ) : Type 0 where
@@ -67,32 +66,11 @@ RefusesReplay z bytes NoSeparator = HasNoParts bytes
 RefusesReplay z bytes Memory = Unit {0}
 RefusesReplay z bytes _ = ⊥
 
--- the text of the answer was written
-pub record WritesReplay (z : Sizes) (bytes : List ℕ) (judged : JudgedReplay) (before after : Option (List ℕ)) : Type 0 where
-  pub text : List ℕ
-  pub tells : TellsReplay z bytes judged text
-  pub written : Appends before after text
-
--- a front part of the text of some answer was written
-pub record WritesReplayFront (z : Sizes) (bytes : List ℕ) (before after : Option (List ℕ)) : Type 0 where
-  pub judged : JudgedReplay
-  pub text : List ℕ
-  pub tells : TellsReplay z bytes judged text
-  pub written : AppendsFront before after text
-
--- the input was read to its end, and the text of its answer was written
-abbrev pub JudgesReplay : Sizes → JudgedReplay → Option (List ℕ) → Option (List ℕ) → Option (List ℕ) → Option (List ℕ) → Type 0
-JudgesReplay z judged left_before left_after before after = ReadsAll (λ bytes. WritesReplay z bytes judged before after) left_before left_after
-
--- or a front part of it
-abbrev pub StopsReplay : Sizes → Option (List ℕ) → Option (List ℕ) → Option (List ℕ) → Option (List ℕ) → Type 0
-StopsReplay z left_before left_after before after = ReadsAll (λ bytes. WritesReplayFront z bytes before after) left_before left_after
-
 -- what was written by the end, where a text is or a front part of one
 pub record Wrote (z : Sizes) (judged : JudgedReplay) (left_before left_after before after : Option (List ℕ)) : Type 0 where
-  pub legal : judged ≡ Legal → JudgesReplay z Legal left_before left_after before after
-  pub differs : (n : ℕ) → judged ≡ Differs n → JudgesReplay z (Differs n) left_before left_after before after
-  pub cut : judged ≡ WriteFault → StopsReplay z left_before left_after before after
+  pub legal : judged ≡ Legal → Judges (TellsReplay z) Legal left_before left_after before after
+  pub differs : (n : ℕ) → judged ≡ Differs n → Judges (TellsReplay z) (Differs n) left_before left_after before after
+  pub cut : judged ≡ WriteFault → StopsWriting (TellsReplay z) left_before left_after before after
 
 -- when each answer comes that says what is wrong with the bytes that were read
 pub record FindsFault (z : Sizes) (judged : JudgedReplay) (before after : Option (List ℕ)) : Type 0 where

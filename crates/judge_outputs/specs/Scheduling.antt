@@ -1,7 +1,6 @@
 -- What the judge has written where a schedule is asked for.
 use Rattle.std.specs.Prelude.{◌≡◌, ◌≢◌, ◌⊎◌, ℕ, IsTrue, List, [], Option, Some, None}
 use Rattle.std.specs.List.{list_all}
-use Rattle.std.specs.Io.KnownBytes.{Appends}
 use Rattle.model_core.specs.declared.command.Command.{Command}
 use Rattle.model_core.specs.declared.entry.Entry.{Entry}
 use Rattle.model_core.specs.declared.state.Sizes.{Sizes}
@@ -22,7 +21,7 @@ use Rattle.judge_outputs.specs.Input.{HasNoParts}
 use Rattle.judge_outputs.specs.Judging.{IsInput, IsOfBytes, IsRefused, IsSilent, IsTold, IsWrong, Refuses, Tells}
 use Rattle.judge_outputs.specs.Reading.{IsReadInPart, ReadsAll}
 use Rattle.judge_outputs.specs.Turns.{turns_in}
-use Rattle.judge_outputs.specs.Writing.{AppendsFront}
+use Rattle.judge_outputs.specs.Written.{Judges, StopsWriting}
 
 -- what a script prints under the schedule of these items
 abbrev pub turns_output : Sizes → List (List Command) → List Item → List ℕ
@@ -73,34 +72,13 @@ TellsTurns z bytes NoSchedule text = HasNoSchedule z bytes text
 TellsTurns z bytes (Other Legal) text = ⊥
 TellsTurns z bytes (Other judged) text = Tells z bytes judged text
 
--- the text of the answer was written
-pub record WritesTurns (z : Sizes) (bytes : List ℕ) (judged : TurnsJudged) (before after : Option (List ℕ)) : Type 0 where
-  pub text : List ℕ
-  pub tells : TellsTurns z bytes judged text
-  pub written : Appends before after text
-
--- a front part of the text of some answer was written
-pub record WritesTurnsFront (z : Sizes) (bytes : List ℕ) (before after : Option (List ℕ)) : Type 0 where
-  pub judged : TurnsJudged
-  pub text : List ℕ
-  pub tells : TellsTurns z bytes judged text
-  pub written : AppendsFront before after text
-
--- the input was read to its end, and the text of its answer was written
-abbrev pub JudgesTurns : Sizes → TurnsJudged → Option (List ℕ) → Option (List ℕ) → Option (List ℕ) → Option (List ℕ) → Type 0
-JudgesTurns z judged left_before left_after before after = ReadsAll (λ bytes. WritesTurns z bytes judged before after) left_before left_after
-
--- or a front part of it
-abbrev pub StopsTurns : Sizes → Option (List ℕ) → Option (List ℕ) → Option (List ℕ) → Option (List ℕ) → Type 0
-StopsTurns z left_before left_after before after = ReadsAll (λ bytes. WritesTurnsFront z bytes before after) left_before left_after
-
 -- what was written by the end, where a text is or a front part of one
 pub record Wrote (z : Sizes) (judged : TurnsJudged) (left_before left_after before after : Option (List ℕ)) : Type 0 where
-  pub printed : judged ≡ Printed → JudgesTurns z Printed left_before left_after before after
-  pub no_schedule : judged ≡ NoSchedule → JudgesTurns z NoSchedule left_before left_after before after
-  pub none_found : judged ≡ Other NoneFound → JudgesTurns z (Other NoneFound) left_before left_after before after
-  pub gave_up : judged ≡ Other GaveUp → JudgesTurns z (Other GaveUp) left_before left_after before after
-  pub cut : judged ≡ Other WriteFault → StopsTurns z left_before left_after before after
+  pub printed : judged ≡ Printed → Judges (TellsTurns z) Printed left_before left_after before after
+  pub no_schedule : judged ≡ NoSchedule → Judges (TellsTurns z) NoSchedule left_before left_after before after
+  pub none_found : judged ≡ Other NoneFound → Judges (TellsTurns z) (Other NoneFound) left_before left_after before after
+  pub gave_up : judged ≡ Other GaveUp → Judges (TellsTurns z) (Other GaveUp) left_before left_after before after
+  pub cut : judged ≡ Other WriteFault → StopsWriting (TellsTurns z) left_before left_after before after
 
 -- when each answer comes that says what is wrong with the bytes that were read
 pub record FindsFault (domains : ℕ) (judged : TurnsJudged) (before after : Option (List ℕ)) : Type 0 where

@@ -1,6 +1,5 @@
 -- What the judge of tables has done by the end.
 use Rattle.std.specs.Prelude.{◌≡◌, ℕ, ◌+◌, List, ◌++◌, Option, Some, codes, decimal, flat_map}
-use Rattle.std.specs.Io.KnownBytes.{Appends}
 use Rattle.model_core.specs.declared.state.Sizes.{Sizes}
 use Rattle.model_core.specs.Output.{line}
 use Rattle.text_script.specs.declared.fault.ScriptFault.{ScriptFault}
@@ -14,7 +13,7 @@ use Rattle.judge_outputs.specs.declared.tables.JudgedTable.TheVariants.{Legal, N
 use Rattle.judge_outputs.specs.Input.{HasNoParts, HasParts}
 use Rattle.judge_outputs.specs.Reading.{IsReadInPart, ReadsAll}
 use Rattle.judge_outputs.specs.Show.{line_feed}
-use Rattle.judge_outputs.specs.Writing.{AppendsFront}
+use Rattle.judge_outputs.specs.Written.{Judges, StopsWriting}
 
 -- the bytes are a table's text, the line between, and an output
 pub record IsTableInput (bytes : List ℕ) (table : texts.Text) (output : List ℕ) : Type 0 where
@@ -62,32 +61,11 @@ RefusesTable bytes NoSeparator = HasNoParts bytes
 RefusesTable bytes Memory = Unit {0}
 RefusesTable bytes _ = ⊥
 
--- the text of the answer was written
-pub record WritesTable (z : Sizes) (bytes : List ℕ) (judged : JudgedTable) (before after : Option (List ℕ)) : Type 0 where
-  pub text : List ℕ
-  pub tells : TellsTable z bytes judged text
-  pub written : Appends before after text
-
--- a front part of the text of some answer was written
-pub record WritesTableFront (z : Sizes) (bytes : List ℕ) (before after : Option (List ℕ)) : Type 0 where
-  pub judged : JudgedTable
-  pub text : List ℕ
-  pub tells : TellsTable z bytes judged text
-  pub written : AppendsFront before after text
-
--- the input was read to its end, and the text of its answer was written
-abbrev pub JudgesTable : Sizes → JudgedTable → Option (List ℕ) → Option (List ℕ) → Option (List ℕ) → Option (List ℕ) → Type 0
-JudgesTable z judged left_before left_after before after = ReadsAll (λ bytes. WritesTable z bytes judged before after) left_before left_after
-
--- or a front part of it
-abbrev pub StopsTable : Sizes → Option (List ℕ) → Option (List ℕ) → Option (List ℕ) → Option (List ℕ) → Type 0
-StopsTable z left_before left_after before after = ReadsAll (λ bytes. WritesTableFront z bytes before after) left_before left_after
-
 -- what was written by the end, where a text is or a front part of one
 pub record Wrote (z : Sizes) (judged : JudgedTable) (left_before left_after before after : Option (List ℕ)) : Type 0 where
-  pub legal : judged ≡ Legal → JudgesTable z Legal left_before left_after before after
-  pub none_found : (n : ℕ) → judged ≡ NoneFound n → JudgesTable z (NoneFound n) left_before left_after before after
-  pub cut : judged ≡ WriteFault → StopsTable z left_before left_after before after
+  pub legal : judged ≡ Legal → Judges (TellsTable z) Legal left_before left_after before after
+  pub none_found : (n : ℕ) → judged ≡ NoneFound n → Judges (TellsTable z) (NoneFound n) left_before left_after before after
+  pub cut : judged ≡ WriteFault → StopsWriting (TellsTable z) left_before left_after before after
 
 -- when each answer comes that says what is wrong with the bytes that were read
 pub record FindsFault (judged : JudgedTable) (before after : Option (List ℕ)) : Type 0 where

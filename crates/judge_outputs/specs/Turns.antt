@@ -18,17 +18,19 @@ going p = Some (record { phase = p; item = None })
 abbrev pub over : Item → Option Step
 over i = Some (record { phase = Between; item = Some i })
 
--- a command that isn't `full_major`, or an end: the finalisers that ran before it are of its domain
+-- what goes on where a domain may: the finalisers that ran before it are its own
+abbrev pub after_own : Phase → ℕ → Option Step → Option Step
+after_own Between d step = step
+after_own (Ran e) d step = cond (e == d) step None
+after_own _ d step = None
+
+-- a command that isn't `full_major`, or an end
 abbrev pub after_call : Phase → ℕ → Option Step
-after_call Between d = over (Turn d)
-after_call (Ran e) d = cond (e == d) (over (Turn d)) None
-after_call _ d = None
+after_call p d = after_own p d (over (Turn d))
 
 -- a finaliser that a domain runs
 abbrev pub after_run : Phase → ℕ → Option Step
-after_run Between d = going (Ran d)
-after_run (Ran e) d = cond (e == d) (going (Ran d)) None
-after_run _ d = None
+after_run p d = after_own p d (going (Ran d))
 
 -- a collection begins
 abbrev pub after_begin : Phase → Option Step

@@ -5,17 +5,17 @@ ghost use Rattle.model_core.specs.declared.state.Sizes.{Sizes as declared_sizes}
 ghost use Rattle.text_script.specs.Script.{Scripted};
 ghost use Rattle.judge_outputs.specs.Answer.{IsTrueAnswer};
 ghost use Rattle.judge_outputs.specs.Faulting.{FaultDecides};
-ghost use Rattle.judge_outputs.specs.Judging.{FindsFault, IsInput, IsOfBytes, IsRefused, IsSilent, IsTold, Wrote, Refuses, Tells, WritesAnswer, WritesFront};
+ghost use Rattle.judge_outputs.specs.Judging.{FindsFault, IsInput, IsOfBytes, IsRefused, IsSilent, IsTold, Wrote, Refuses, Tells};
+ghost use Rattle.judge_outputs.specs.Written.{WritesAnswer, WritesFront};
 
 use crate::Judged;
 use crate::explain::{Explained, Seek, explain};
 use crate::input::split_input;
 use crate::reading::{ReadStop, read_bytes};
 use crate::show::{gave_up, legal, none_found};
-use crate::writing::write_all;
 use model_core::state::Sizes;
 use std::alloc::{AllocError, Global};
-use text_ends::{Failed, Sink, Source};
+use text_ends::{Failed, Sink, Source, write_all};
 use text_script::{Script, ScriptFault, Version, read_script};
 
 // What is written, and what is answered then.
@@ -95,8 +95,8 @@ fn judge_bytes<K: Sink, F: Seek>(
     search: &mut F,
 ) -> Judged
     requires { IsWithinLimits sizes.now }
-    ensures told { IsTold result → WritesAnswer sizes.now bytes.now result (K.written out.old) (K.written out.new) }
-    ensures cut { result ≡ Judged.WriteFault → WritesFront sizes.now bytes.now (K.written out.old) (K.written out.new) }
+    ensures told { IsTold result → WritesAnswer (Tells sizes.now bytes.now) result (K.written out.old) (K.written out.new) }
+    ensures cut { result ≡ Judged.WriteFault → WritesFront (Tells sizes.now bytes.now) (K.written out.old) (K.written out.new) }
     ensures refused { IsRefused result → Refuses sizes.now.domains bytes.now result }
     ensures quiet { IsSilent result → out.new ≡ out.old }
     ensures writes { FaultDecides result Judged.WriteFault (K.faults out.old) (K.faults out.new) }

@@ -15,7 +15,6 @@ mod show;
 mod tables;
 pub mod texts;
 mod turns;
-mod writing;
 
 pub use explain::{Seek, Sought};
 pub use judged::Judged;

@@ -3,8 +3,9 @@ ghost use Rattle.std.specs.Prelude.{◌≡◌, ◌≤◌, ◌++◌, ℕ, List, I
 ghost use Rattle.table_text.specs.Sections.Spelling.{Sections};
 ghost use Rattle.judge_outputs.specs.Faulting.{FaultDecides};
 ghost use Rattle.judge_outputs.specs.Judging.{IsOfBytes, IsRefused, IsSilent, IsTold};
-ghost use Rattle.judge_outputs.specs.Ordering.{FindsFault, IsSectionsInput, RefusesSections, TellsSections, WritesSections, WritesSectionsFront, Wrote, no_order_text, order_text, turn_text};
+ghost use Rattle.judge_outputs.specs.Ordering.{FindsFault, IsSectionsInput, RefusesSections, TellsSections, Wrote, no_order_text, order_text, turn_text};
 ghost use Rattle.judge_outputs.specs.Sections.Answer.{IsTrueAnswer};
+ghost use Rattle.judge_outputs.specs.Written.{WritesAnswer, WritesFront};
 
 use crate::input::split_input;
 use crate::judged::Judged;
@@ -12,10 +13,9 @@ use crate::reading::{ReadStop, read_bytes};
 use crate::sections::{Explained, Turn, explain_sections};
 use crate::show::{gave_up, push, push_between};
 use crate::texts::replies::push_line;
-use crate::writing::write_all;
 use std::alloc::{AllocError, Global};
 use table_text::{SectionsText, read_sections};
-use text_ends::{Failed, Sink, Source};
+use text_ends::{Failed, Sink, Source, write_all};
 use text_script::ScriptFault;
 
 // What is written, and what is answered then.
@@ -120,8 +120,8 @@ fn judge_bytes<K: Sink>(
     out: &mut K,
 ) -> Judged
     requires { domains ≤ 8 }
-    ensures told { IsTold result → WritesSections domains states bytes.now result (K.written out.old) (K.written out.new) }
-    ensures cut { result ≡ Judged.WriteFault → WritesSectionsFront domains states bytes.now (K.written out.old) (K.written out.new) }
+    ensures told { IsTold result → WritesAnswer (TellsSections domains states bytes.now) result (K.written out.old) (K.written out.new) }
+    ensures cut { result ≡ Judged.WriteFault → WritesFront (TellsSections domains states bytes.now) (K.written out.old) (K.written out.new) }
     ensures refused { IsRefused result → RefusesSections domains bytes.now result }
     ensures quiet { IsSilent result → out.new ≡ out.old }
     ensures writes { FaultDecides result Judged.WriteFault (K.faults out.old) (K.faults out.new) }
@@ -154,7 +154,8 @@ pub fn judge_sections<S: Source, K: Sink>(
 ) -> Judged
     requires { domains ≤ 8 }
     // What was written: `legal` only where the machine may answer so, and then in which order.
-    ensures wrote { Wrote domains states result (S.left src.old) (S.left src.new) (K.written out.old) (K.written out.new) }
+    ensures wrote { Wrote domains states result
+        (S.left src.old) (S.left src.new) (K.written out.old) (K.written out.new) }
     ensures quiet { IsSilent result → out.new ≡ out.old }
 
     // When each other answer comes. A read or a write that failed decides the answer: none is tried again.

@@ -6,16 +6,16 @@ ghost use Rattle.judge_plain.specs.Scheduled.Lines.{differs_from};
 ghost use Rattle.text_script.specs.Schedule.Text.Replays.{Replayed};
 ghost use Rattle.model_traces.specs.Scheduled.Runs.{IsPlainScript};
 ghost use Rattle.judge_outputs.specs.Faulting.{FaultDecides};
-ghost use Rattle.judge_outputs.specs.Replays.{FindsFault, IsOfReplay, IsReplayInput, IsReplayRefused, IsReplaySilent, IsReplayTold, Wrote, RefusesReplay, TellsReplay, WritesReplay, WritesReplayFront, other_text, same_text, scheduled_output};
+ghost use Rattle.judge_outputs.specs.Replays.{FindsFault, IsOfReplay, IsReplayInput, IsReplayRefused, IsReplaySilent, IsReplayTold, Wrote, RefusesReplay, TellsReplay, other_text, same_text, scheduled_output};
+ghost use Rattle.judge_outputs.specs.Written.{WritesAnswer, WritesFront};
 
 use crate::input::split_input;
 use crate::reading::{ReadStop, read_bytes};
-use crate::show::{push, push_count};
-use crate::writing::write_all;
+use crate::show::{counted, push};
 use judge_plain::scheduled::{first_difference, scheduled_text};
 use model_core::state::Sizes;
 use std::alloc::{AllocError, Global};
-use text_ends::{Failed, Sink, Source};
+use text_ends::{Failed, Sink, Source, write_all};
 use text_script::schedule::text::{Replay, ReplayFault, read_replay};
 
 /// What came of judging the output of a replay.
@@ -79,14 +79,12 @@ fn same(alloc: Global) -> Result<Vec<u8>, AllocError>
 fn other(alloc: Global, line: u64) -> Result<Vec<u8>, AllocError>
     ensures { IfOk result (λ v. v.items ≡ other_text line) }
 {
-    let mut text = Vec::new(alloc);
-    push_count(
-        &mut text,
+    counted(
+        alloc,
         b"not legal: line ",
         line,
         b" of the output is the first that the scheduled history prints otherwise\n",
-    )?;
-    Ok(text)
+    )
 }
 
 // What is written of an output that differs first in this line, if in any.
@@ -145,8 +143,8 @@ fn verdict_on(alloc: Global, sizes: &Sizes, bytes: &[u8]) -> Result<Verdict, Jud
 // Judges the output in these bytes.
 fn judge_bytes<K: Sink>(alloc: Global, sizes: &Sizes, bytes: &[u8], out: &mut K) -> JudgedReplay
     requires { IsWithinLimits sizes.now }
-    ensures told { IsReplayTold result → WritesReplay sizes.now bytes.now result (K.written out.old) (K.written out.new) }
-    ensures cut { result ≡ JudgedReplay.WriteFault → WritesReplayFront sizes.now bytes.now (K.written out.old) (K.written out.new) }
+    ensures told { IsReplayTold result → WritesAnswer (TellsReplay sizes.now bytes.now) result (K.written out.old) (K.written out.new) }
+    ensures cut { result ≡ JudgedReplay.WriteFault → WritesFront (TellsReplay sizes.now bytes.now) (K.written out.old) (K.written out.new) }
     ensures refused { IsReplayRefused result → RefusesReplay sizes.now bytes.now result }
     ensures quiet { IsReplaySilent result → out.new ≡ out.old }
     ensures writes { FaultDecides result JudgedReplay.WriteFault (K.faults out.old) (K.faults out.new) }

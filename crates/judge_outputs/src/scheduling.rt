@@ -8,7 +8,8 @@ ghost use Rattle.judge_outputs.specs.declared.judged.Judged.TheVariants as other
 ghost use Rattle.judge_outputs.specs.Answer.{ExplainsScript, IsTrueAnswer};
 ghost use Rattle.judge_outputs.specs.Faulting.{FaultDecides};
 ghost use Rattle.judge_outputs.specs.Judging.{IsInput, Refuses};
-ghost use Rattle.judge_outputs.specs.Scheduling.{FindsFault, FoundTurns, IsTurnsOfBytes, IsTurnsRefused, IsTurnsSilent, IsTurnsTold, Wrote, PrintedTurns, RefusesTurns, TellsTurns, WritesTurns, WritesTurnsFront, turns_output};
+ghost use Rattle.judge_outputs.specs.Scheduling.{FindsFault, FoundTurns, IsTurnsOfBytes, IsTurnsRefused, IsTurnsSilent, IsTurnsTold, Wrote, PrintedTurns, RefusesTurns, TellsTurns, turns_output};
+ghost use Rattle.judge_outputs.specs.Written.{WritesAnswer, WritesFront};
 
 use crate::Judged;
 use crate::explain::{Explained, Seek, explain};
@@ -16,13 +17,12 @@ use crate::judging::read_input;
 use crate::reading::{ReadStop, read_bytes};
 use crate::show::{gave_up, none_found};
 use crate::turns::{gather_turns, turns_text};
-use crate::writing::write_all;
 use judge_plain::scheduled::scheduled_text;
 use model_core::entry::Entry;
 use model_core::state::Sizes;
 use model_traces::schedules::Item;
 use std::alloc::{AllocError, Global};
-use text_ends::{Failed, Sink, Source};
+use text_ends::{Failed, Sink, Source, write_all};
 use text_script::Script;
 
 /// What came of judging an output where a schedule is asked for.
@@ -183,9 +183,9 @@ fn judge_bytes<K: Sink, F: Seek>(
     search: &mut F,
 ) -> TurnsJudged
     requires { IsWithinLimits sizes.now }
-    ensures told { IsTurnsTold result → WritesTurns sizes.now bytes.now result (K.written out.old) (K.written out.new) }
+    ensures told { IsTurnsTold result → WritesAnswer (TellsTurns sizes.now bytes.now) result (K.written out.old) (K.written out.new) }
     ensures cut { result ≡ TurnsJudged.Other other.WriteFault
-        → WritesTurnsFront sizes.now bytes.now (K.written out.old) (K.written out.new) }
+        → WritesFront (TellsTurns sizes.now bytes.now) (K.written out.old) (K.written out.new) }
     ensures refused { IsTurnsRefused result → RefusesTurns sizes.now.domains bytes.now result }
     ensures quiet { IsTurnsSilent result → out.new ≡ out.old }
     ensures writes { FaultDecides result (TurnsJudged.Other other.WriteFault) (K.faults out.old) (K.faults out.new) }

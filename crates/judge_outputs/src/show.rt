@@ -40,6 +40,20 @@ pub(crate) fn push_count(
     push(text, behind)
 }
 
+/// A count between two texts.
+pub(crate) fn counted(
+    alloc: Global,
+    front: &[u8],
+    count: u64,
+    behind: &[u8],
+) -> Result<Vec<u8>, AllocError>
+    ensures { IfOk result (λ v. v.items ≡ front.now ++ decimal count ++ behind.now) }
+{
+    let mut text = Vec::new(alloc);
+    push_count(&mut text, front, count, behind)?;
+    Ok(text)
+}
+
 /// Puts a number at the end between two texts.
 pub(crate) fn push_between(
     text: &mut Vec<u8>,
@@ -161,21 +175,17 @@ pub(crate) fn legal(alloc: Global, history: &[Entry]) -> Result<Vec<u8>, AllocEr
 pub(crate) fn none_found(alloc: Global, states: u64) -> Result<Vec<u8>, AllocError>
     ensures { IfOk result (λ v. v.items ≡ none_text states) }
 {
-    let mut text = Vec::new(alloc);
-    push_count(
-        &mut text,
+    counted(
+        alloc,
         b"no history found in ",
         states,
         b" states, which are all; tests alone show that there is none then\n",
-    )?;
-    Ok(text)
+    )
 }
 
 /// That the search was given up after so many states.
 pub(crate) fn gave_up(alloc: Global, states: u64) -> Result<Vec<u8>, AllocError>
     ensures { IfOk result (λ v. v.items ≡ gave_up_text states) }
 {
-    let mut text = Vec::new(alloc);
-    push_count(&mut text, b"gave up after ", states, b" states\n")?;
-    Ok(text)
+    counted(alloc, b"gave up after ", states, b" states\n")
 }

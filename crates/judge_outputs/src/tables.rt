@@ -5,17 +5,17 @@ ghost use Rattle.model_core.specs.declared.state.Sizes.{Sizes as declared_sizes}
 ghost use Rattle.judge_outputs.specs.Texts.Answer.{IsTrueAnswer};
 ghost use Rattle.table_text.specs.Texts as texts;
 ghost use Rattle.judge_outputs.specs.Faulting.{FaultDecides};
-ghost use Rattle.judge_outputs.specs.Tables.{FindsFault, IsOfTable, IsTableInput, IsTableRefused, IsTableSilent, IsTableTold, Wrote, RefusesTable, TellsTable, WritesTable, WritesTableFront, gone_text, no_run_text, run_text};
+ghost use Rattle.judge_outputs.specs.Tables.{FindsFault, IsOfTable, IsTableInput, IsTableRefused, IsTableSilent, IsTableTold, Wrote, RefusesTable, TellsTable, gone_text, no_run_text, run_text};
+ghost use Rattle.judge_outputs.specs.Written.{WritesAnswer, WritesFront};
 
 use crate::input::split_input;
 use crate::reading::{ReadStop, read_bytes};
-use crate::show::{push, push_count};
+use crate::show::{counted, push, push_count};
 use crate::texts::{Explained, Gone, explain_output};
-use crate::writing::write_all;
 use model_core::state::Sizes;
 use std::alloc::{AllocError, Global};
 use table_text::{TableText, read_table};
-use text_ends::{Failed, Sink, Source};
+use text_ends::{Failed, Sink, Source, write_all};
 use text_script::ScriptFault;
 
 /// What came of judging the output of a table's text.
@@ -87,14 +87,12 @@ fn run(alloc: Global, gone: &[Gone]) -> Result<Vec<u8>, AllocError>
 fn no_run(alloc: Global, line: u64) -> Result<Vec<u8>, AllocError>
     ensures { IfOk result (λ v. v.items ≡ no_run_text line) }
 {
-    let mut text = Vec::new(alloc);
-    push_count(
-        &mut text,
+    counted(
+        alloc,
         b"no run found: line ",
         line,
         b" of the output is the first that the run which was tried hasn't; tests alone show that there is none then\n",
-    )?;
-    Ok(text)
+    )
 }
 
 // What is written of what was found.
@@ -133,8 +131,8 @@ fn find(alloc: Global, sizes: &Sizes, bytes: &[u8]) -> Result<Finding, JudgedTab
 // Judges the output in these bytes.
 fn judge_bytes<K: Sink>(alloc: Global, sizes: &Sizes, bytes: &[u8], out: &mut K) -> JudgedTable
     requires { IsWithinLimits sizes.now }
-    ensures told { IsTableTold result → WritesTable sizes.now bytes.now result (K.written out.old) (K.written out.new) }
-    ensures cut { result ≡ JudgedTable.WriteFault → WritesTableFront sizes.now bytes.now (K.written out.old) (K.written out.new) }
+    ensures told { IsTableTold result → WritesAnswer (TellsTable sizes.now bytes.now) result (K.written out.old) (K.written out.new) }
+    ensures cut { result ≡ JudgedTable.WriteFault → WritesFront (TellsTable sizes.now bytes.now) (K.written out.old) (K.written out.new) }
     ensures refused { IsTableRefused result → RefusesTable bytes.now result }
     ensures quiet { IsTableSilent result → out.new ≡ out.old }
     ensures writes { FaultDecides result JudgedTable.WriteFault (K.faults out.old) (K.faults out.new) }

@@ -2,7 +2,7 @@
 ghost use Rattle.std.specs.Prelude.{◌≡◌, ◌++◌, Some, OnOk, IfOk, option_map};
 ghost use Rattle.text_script.specs.Schedule.Text.Spelling.{item_text};
 ghost use Rattle.model_core.specs.Output.{line};
-ghost use Rattle.judge_outputs.specs.Turns.{after_answer, after_begin, after_call, after_end, after_entry, after_run, after_within, completed as completed_as, schedule_written, turns_in};
+ghost use Rattle.judge_outputs.specs.Turns.{after_answer, after_begin, after_call, after_end, after_entry, after_own, after_run, after_within, completed as completed_as, schedule_written, turns_in};
 
 use crate::show::{push, push_between};
 use model_core::command::Command;
@@ -49,26 +49,29 @@ fn over(item: Item) -> Step
     }
 }
 
+// What goes on where a domain may: the finalisers that ran before it are its own.
+fn own(phase: Phase, domain: u32, step: Step) -> Option<Step>
+    ensures { result ≡ after_own phase domain (Some step) }
+{
+    match phase {
+        Phase::Between => Some(step),
+        Phase::Ran(other) if other == domain => Some(step),
+        _ => None,
+    }
+}
+
 // A command that isn't `full_major`, or an end.
 fn call(phase: Phase, domain: u32) -> Option<Step>
     ensures { result ≡ after_call phase domain }
 {
-    match phase {
-        Phase::Between => Some(over(Item::Turn(domain))),
-        Phase::Ran(other) if other == domain => Some(over(Item::Turn(domain))),
-        _ => None,
-    }
+    own(phase, domain, over(Item::Turn(domain)))
 }
 
 // A finaliser that a domain runs.
 fn run(phase: Phase, domain: u32) -> Option<Step>
     ensures { result ≡ after_run phase domain }
 {
-    match phase {
-        Phase::Between => Some(going(Phase::Ran(domain))),
-        Phase::Ran(other) if other == domain => Some(going(Phase::Ran(domain))),
-        _ => None,
-    }
+    own(phase, domain, going(Phase::Ran(domain)))
 }
 
 // A collection begins.
