@@ -45,7 +45,8 @@ use Rattle.camlheap_run.specs.Reading.{IsSpelled, IsSpelledReplay}
 use Rattle.camlheap_run.proofs.SectionLemmas.{older_script}
 use Rattle.text_script.specs.Forms.{version_number}
 use Rattle.camlheap_run.specs.Replaying.{MayReplay as MayReplayOn, WritesFrontOfReplay, WritesReplay, fault_status}
-use Rattle.camlheap_run.specs.Writing.{AppendsFront, run_text}
+use Rattle.text_ends.specs.Writing.{AppendsFront}
+use Rattle.camlheap_run.specs.Writing.{run_text}
 use Rattle.camlheap_run.proofs.BeginLemmas.{opened_at}
 use Rattle.camlheap_run.proofs.RunLemmas.{AreTold, Told, all_from_each, begins_at, each_from_all, length-begun, printed_is, told_by, told_front, told_run}
 

@@ -26,7 +26,8 @@ use Rattle.camlheap_run.specs.declared.run.begin.Begun.{Begun}
 use Rattle.camlheap_run.specs.declared.write.report.Report.{Report}
 use Rattle.camlheap_run.specs.declared.write.report.Report.TheVariants.{Replies, Summary}
 use Rattle.camlheap_run.specs.Running.{AreDriven, DrivesToEnd, IsBegun, IsHere, IsOver, IsPastOf, opened, token_of}
-use Rattle.camlheap_run.specs.Writing.{AppendsFront, run_text, text_of}
+use Rattle.text_ends.specs.Writing.{AppendsFront}
+use Rattle.camlheap_run.specs.Writing.{run_text, text_of}
 use Rattle.camlheap_run.specs.Outcome.{HasRun, WritesRun, WritesFrontOfRun}
 use Rattle.camlheap_run.proofs.BeginLemmas.{length-opened, opened_at}
 

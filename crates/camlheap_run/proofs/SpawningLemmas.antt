@@ -45,7 +45,8 @@ use Rattle.camlheap_run.specs.declared.run.begin.Begun.{Begun}
 use Rattle.camlheap_run.specs.declared.write.report.Report.TheVariants.{Replies}
 use Rattle.camlheap_run.specs.Run.{IsRunOf, IsSpawningRunOf, is_run_of, output_of}
 use Rattle.camlheap_run.specs.Running.{AreDriven, BeginsSection, DrivesToEnd, IsPastOf, IsSectioned, MayBeginSections, deck_of, most_of, sectioned_each, sectioned_with}
-use Rattle.camlheap_run.specs.Writing.{AppendsFront, run_text}
+use Rattle.text_ends.specs.Writing.{AppendsFront}
+use Rattle.camlheap_run.specs.Writing.{run_text}
 use Rattle.camlheap_run.specs.Outcome.{WritesRunBy, WritesFrontOfRunBy}
 use Rattle.camlheap_run.proofs.RunLemmas.{begins_at, each_from_all, ends_in, texts}
 

@@ -22,7 +22,7 @@ use Rattle.table_text.specs.Machine.Texts.{replies_text}
 use Rattle.table_run.specs.Running.{TextRuns, all_rooms, rooms_of}
 use Rattle.camlheap_run.specs.declared.table.alone.Opened.{Opened}
 use Rattle.camlheap_run.specs.Tables.{HasRunTable, IsOpened, MayRunAlone, ephemerons_for, WritesFrontOfTable, WritesTable}
-use Rattle.camlheap_run.specs.Writing.{AppendsFront}
+use Rattle.text_ends.specs.Writing.{AppendsFront}
 use Rattle.camlheap_run.proofs.SectionLemmas.{rooms_fit}
 
 -- the heap that is started is one of the sizes asked for

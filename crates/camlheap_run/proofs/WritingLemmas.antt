@@ -3,10 +3,9 @@ use Rattle.std.proofs.Common.{◌≡◌, ℕ, ◌+◌, ◌<◌, List, [], ◌∷
 use Rattle.std.specs.Prelude.{flat_map}
 use Rattle.std.proofs.lemmas.List.Concat.{flat_map-append}
 use Rattle.std.specs.declared.option.Option.{Option}
-use Rattle.std.specs.Result.{IsErr}
-use Rattle.std.specs.Io.KnownBytes.{Appends, Keeps}
-use Rattle.std.proofs.KnownBytes.{Appends-trans, Appends-kept}
-use Rattle.camlheap_run.specs.Writing.{AppendsFront, Writes}
+use Rattle.std.specs.Io.KnownBytes.{Appends}
+use Rattle.std.proofs.KnownBytes.{Appends-trans}
+use Rattle.text_ends.specs.Writing.{AppendsFront, Writes}
 
 -- the first text was appended, and a front part of the second
 pub front_of_second : (a b c : Option (List ℕ)) (first second text rest : List ℕ) → text ≡ first ++ (second ++ rest) → Appends a b first → AppendsFront b c second → AppendsFront a c text
@@ -30,20 +29,6 @@ front_of_first a b first second part = record {
 pub writes_both : {T E : Type 0} → (a b c : Option (List ℕ)) (result : Result T E) (first second : List ℕ) → Appends a b first → Writes b c result second → Writes a c result (first ++ second)
 writes_both a b c (Ok x) first second whole writes = Appends-trans a b c first second whole writes
 writes_both a b c (Err e) first second whole writes = front_of_second a b c first second (first ++ second) [] (ap (λ (l : List ℕ). first ++ l) (sym (append-nil second))) whole writes
-
--- a write that failed appended nothing behind a front part
-pub front_at_fault : (a b c : Option (List ℕ)) (text : List ℕ) (at : ℕ) → Appends a b (take at text) → Keeps b c → AppendsFront a c text
-front_at_fault a b c text at part kept = record {
-  front = take at text;
-  rest = drop at text;
-  splits = sym (take-append-drop at text);
-  appended = Appends-kept a b c (take at text) part kept;
-}
-
--- where a write failed, a front part was appended
-pub front_is_written : {T E : Type 0} → (a b : Option (List ℕ)) (result : Result T E) (text : List ℕ) → IsErr result → AppendsFront a b text → Writes a b result text
-front_is_written a b (Ok x) text failed part = cc
-front_is_written a b (Err e) text failed part = part
 
 -- the texts of a list whose items are written part by part: what is written, the text of the next part, and the texts behind it
 pub text_by_parts : {A : Type 0} (f : A → List ℕ) (all left part rest : List A) (done text : List ℕ) → done ++ flat_map f left ≡ flat_map f all → left ≡ part ++ rest → text ≡ flat_map f part

@@ -9,7 +9,7 @@ use Rattle.text_script.specs.declared.version.Version.TheVariants.{One}
 use Rattle.text_script.specs.Generated.{generated}
 use Rattle.text_script.specs.Spelling.{command_text, heading_text, spelling}
 use Rattle.text_script.specs.declared.words.job.Generated.{Generated}
-use Rattle.camlheap_run.specs.Writing.{AppendsFront}
+use Rattle.text_ends.specs.Writing.{AppendsFront}
 
 -- the lines of commands
 abbrev pub commands_text : List Command → List ℕ

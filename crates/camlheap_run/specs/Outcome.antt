@@ -15,7 +15,7 @@ use Rattle.text_script.specs.Words.Jobs.{load_sizes}
 use Rattle.camlheap_run.specs.Generating.{script_of}
 use Rattle.text_script.specs.Script.{Scripted}
 use Rattle.camlheap_run.specs.Reading.{ReadsScript}
-use Rattle.camlheap_run.specs.Writing.{AppendsFront}
+use Rattle.text_ends.specs.Writing.{AppendsFront}
 use Rattle.camlheap_run.specs.Run.{IsRunOf, is_run_of, output_of}
 
 -- the heap that has ended is one of these sizes, and its history is a run of this script, as the relation has it

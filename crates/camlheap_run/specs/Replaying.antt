@@ -14,7 +14,7 @@ use Rattle.camlheap_run.specs.declared.status.Status.{Status}
 use Rattle.camlheap_run.specs.declared.status.Status.TheVariants.{Schedule, Script, NotReplayable, Memory}
 use Rattle.camlheap_run.specs.Outcome.{WritesFrontOfRun, WritesRun}
 use Rattle.camlheap_run.specs.Reading.{ReadsReplay}
-use Rattle.camlheap_run.specs.Writing.{AppendsFront}
+use Rattle.text_ends.specs.Writing.{AppendsFront}
 
 -- sizes of a heap with all classes on which a script may be replayed
 abbrev pub MayReplay : Sizes → Type 0

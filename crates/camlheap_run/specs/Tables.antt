@@ -17,7 +17,7 @@ use Rattle.text_script.specs.Spelling.{heading_text}
 use Rattle.text_script.specs.Words.Jobs.{AreTableSizes}
 use Rattle.camlheap_run.specs.declared.table.alone.Opened.{Opened}
 use Rattle.camlheap_run.specs.Reading.{OneOrMore, ReadsSections, ReadsTable}
-use Rattle.camlheap_run.specs.Writing.{AppendsFront}
+use Rattle.text_ends.specs.Writing.{AppendsFront}
 
 -- sizes of a heap with all classes on which a text of a table may be run
 abbrev pub MayHoldTable : Sizes → Type 0

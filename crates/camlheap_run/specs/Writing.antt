@@ -1,7 +1,6 @@
--- What a write of a text does to the bytes of a sink.
-use Rattle.std.specs.Prelude.{◌≡◌, ℕ, ◌+◌, ◌%◌, ℤ, pos, unsigned_abs, List, ◌++◌, length, flat_map, codes, decimal, Option, Result, MatchResult}
+-- What is written of runs and histories.
+use Rattle.std.specs.Prelude.{ℕ, ◌+◌, ◌%◌, ℤ, pos, unsigned_abs, List, ◌++◌, length, flat_map, codes, decimal}
 use Rattle.std.specs.Int.{int_rem_euclid}
-use Rattle.std.specs.Io.KnownBytes.{Appends}
 use Rattle.model_core.specs.declared.entry.Entry.{Entry}
 use Rattle.model_core.specs.declared.state.Sizes.{Sizes}
 use Rattle.model_core.specs.Output.{line, printed, ints_of, int_sum, output, summary}
@@ -9,17 +8,6 @@ use Rattle.text_script.specs.Spelling.{heading_text}
 use Rattle.run_turns.specs.Runs.{RunView}
 use Rattle.camlheap_run.specs.declared.write.report.Report.{Report}
 use Rattle.camlheap_run.specs.declared.write.report.Report.TheVariants.{Replies, Summary}
-
--- a front part of the text was appended
-pub record AppendsFront (before after : Option (List ℕ)) (text : List ℕ) : Type 0 where
-  pub front : List ℕ
-  pub rest : List ℕ
-  pub splits : text ≡ front ++ rest
-  pub appended : Appends before after front
-
--- the text was appended, or where that failed a front part of it
-abbrev pub Writes : {T E : Type 0} → Option (List ℕ) → Option (List ℕ) → Result T E → List ℕ → Type 0
-Writes before after result text = MatchResult result (λ _. Appends before after text) (λ _. AppendsFront before after text)
 
 -- the integers that a run was answered
 abbrev pub ints_in : RunView → List ℤ

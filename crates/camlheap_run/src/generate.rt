@@ -8,13 +8,13 @@ ghost use Rattle.text_ends.specs.Faults.{HasCause, Rose};
 ghost use Rattle.text_script.specs.Words.Jobs.{IsGenerable};
 ghost use Rattle.camlheap_run.specs.Generating.{section_text, sections_text, commands_text, WritesScript, WritesFrontOfScript};
 ghost use Rattle.camlheap_run.specs.Outcome.{IsRunAnswer, IsWriteFault};
-ghost use Rattle.camlheap_run.specs.Writing.{Writes};
+ghost use Rattle.text_ends.specs.Writing.{Writes};
 
 use crate::Status;
-use crate::write::sections::{write_all, write_heading};
+use crate::write::sections::write_heading;
 use model_core::command::Command;
 use std::alloc::{AllocError, Global};
-use text_ends::{Failed, Sink};
+use text_ends::{Failed, Sink, write_all};
 use text_script::words::Generated;
 use text_script::{Line, Script, generate, print_command};
 

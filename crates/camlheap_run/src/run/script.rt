@@ -10,7 +10,8 @@ ghost use Rattle.text_script.specs.Spawned.Reads.{IsRead};
 ghost use Rattle.camlheap_run.specs.Reading.{IsSpelled, IsSpelledScript};
 ghost use Rattle.camlheap_run.specs.Run.{IsSpawningRunOf};
 ghost use Rattle.camlheap_run.specs.Running.{AreRunSizes, DrivesToEnd};
-ghost use Rattle.camlheap_run.specs.Writing.{AppendsFront, text_of};
+ghost use Rattle.text_ends.specs.Writing.{AppendsFront};
+ghost use Rattle.camlheap_run.specs.Writing.{text_of};
 ghost use Rattle.camlheap_run.specs.Outcome.{WritesRun, WritesFrontOfRun, WritesRunBy, WritesFrontOfRunBy, WritesScriptRun, WritesFrontOfScriptRun, IsWriteFault, IsRunAnswer};
 
 use crate::Status;

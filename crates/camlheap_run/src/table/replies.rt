@@ -4,12 +4,12 @@ ghost use Rattle.model_core.specs.Output.{line};
 ghost use Rattle.text_ends.specs.Faults.{HasCause};
 ghost use Rattle.table_text.specs.Machine.Texts.{line_reply_text, replies_text};
 ghost use Rattle.camlheap_run.specs.Tables.{section_text, sections_text};
-ghost use Rattle.camlheap_run.specs.Writing.{Writes};
+ghost use Rattle.text_ends.specs.Writing.{Writes};
 
 use crate::write::buffer::{put, put_integer, put_number};
-use crate::write::sections::{write_all, write_heading};
+use crate::write::sections::write_heading;
 use table_text::machine::LineReply;
-use text_ends::{Failed, Sink};
+use text_ends::{Failed, Sink, write_all};
 
 // Puts what is written for a line, without its line feed, at the front of the buffer, and answers where it ends.
 fn put_answer(out: &mut [u8; 128], reply: LineReply) -> usize

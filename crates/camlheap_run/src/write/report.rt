@@ -1,7 +1,8 @@
 //! What is written of a run.
 ghost use Rattle.std.specs.Prelude.{flat_map};
 ghost use Rattle.text_ends.specs.Faults.{HasCause};
-ghost use Rattle.camlheap_run.specs.Writing.{Writes, run_text};
+ghost use Rattle.text_ends.specs.Writing.{Writes};
+ghost use Rattle.camlheap_run.specs.Writing.{run_text};
 
 use crate::write::sections::write_section;
 use crate::write::summary::write_summary;

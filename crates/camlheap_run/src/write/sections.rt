@@ -3,26 +3,12 @@ ghost use Rattle.std.specs.Prelude.{◌++◌, length};
 ghost use Rattle.model_core.specs.Output.{line, printed};
 ghost use Rattle.text_script.specs.Spelling.{heading_text};
 ghost use Rattle.text_ends.specs.Faults.{HasCause};
-ghost use Rattle.camlheap_run.specs.Writing.{Writes};
+ghost use Rattle.text_ends.specs.Writing.{Writes};
 
 use crate::write::page::{LINES, Page, put_lines};
 use model_core::reply::Reply;
-use text_ends::{Failed, Sink};
+use text_ends::{Failed, Sink, write_all};
 use text_script::{Line, print_heading};
-
-// Hands a text to the sink, and again what a write leaves of it.
-#[inline(always)]
-pub(crate) fn write_all<K: Sink>(out: &mut K, text: &[u8]) -> Result<(), Failed>
-    ensures cause { HasCause (K.faults out.old) (K.faults out.new) result }
-    ensures bytes { Writes (K.written out.old) (K.written out.new) result text.now }
-{
-    let mut at = 0;
-    'writing: while at < text.len() {
-        let count = out.write(&text[at..])?;
-        at += count;
-    }
-    Ok(())
-}
 
 // Writes the heading of a domain.
 pub(crate) fn write_heading<K: Sink>(out: &mut K, domain: u32) -> Result<(), Failed>

@@ -2,13 +2,13 @@
 ghost use Rattle.std.specs.Prelude.{◌≡◌, ◌≤◌, ◌+◌, ◌++◌, take, length, decimal, flat_map};
 ghost use Rattle.model_core.specs.Output.{ints_of, int_sum};
 ghost use Rattle.text_ends.specs.Faults.{HasCause};
-ghost use Rattle.camlheap_run.specs.Writing.{Writes, run_summary, sum_with};
+ghost use Rattle.text_ends.specs.Writing.{Writes};
+ghost use Rattle.camlheap_run.specs.Writing.{run_summary, sum_with};
 
 use crate::write::buffer::{put, put_number};
-use crate::write::sections::write_all;
 use model_core::reply::Reply;
 use run_turns::DomainRun;
-use text_ends::{Failed, Sink};
+use text_ends::{Failed, Sink, write_all};
 
 // The number by which sums are reduced.
 const MODULUS: i64 = 1_000_003;

@@ -4,17 +4,16 @@ ghost use Rattle.std.specs.List.{AllByRecursion};
 ghost use Rattle.heap_rule.specs.Token.{IsIn};
 ghost use Rattle.run_turns.specs.Runs.{GoesOn};
 ghost use Rattle.text_ends.specs.Faults.{HasCause};
-ghost use Rattle.camlheap_run.specs.Writing.{Writes};
+ghost use Rattle.text_ends.specs.Writing.{Writes};
 ghost use Rattle.camlheap_run.specs.Telling.{GoesOnTelling, IsBlank, IsTeller, Tells, run_of, teller_text, tells_further, tells_nowhere};
 
 use crate::write::report::{Report, write_run};
-use crate::write::sections::write_all;
 use crate::write::text::Text;
 use heap_rule::Heap;
 use run_threads::{Trace, Went};
 use run_turns::DomainRun;
 use std::alloc::{AllocError, Global};
-use text_ends::{Failed, Sink};
+use text_ends::{Failed, Sink, write_all};
 
 // The longest line of a reply that a heap gives: `int -` and 19 digits.
 const LONGEST_LINE: usize = 25;

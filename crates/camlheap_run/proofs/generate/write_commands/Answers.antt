@@ -1,7 +1,8 @@
 use Rattle.std.proofs.Common.{arith}
 use Rattle.model_core.specs.Output.{line}
 use Rattle.text_script.specs.Spelling.{command_text}
-use Rattle.camlheap_run.proofs.WritingLemmas.{front_is_written, front_of_second, text_at}
+use Rattle.text_ends.proofs.WritingLemmas.{front_is_written}
+use Rattle.camlheap_run.proofs.WritingLemmas.{front_of_second, text_at}
 use Rattle.camlheap_run.proofs.generate.write_commands.Goals as goal
 
 pub returns-in_err-write_command-clause-bytes : goal.returns-in_err-write_command-clause-bytes

@@ -2,7 +2,8 @@ use Rattle.std.proofs.Common.{sym, codes, length}
 use Rattle.model_core.specs.Output.{line}
 use Rattle.camlheap_run.specs.Generating.{sections_text}
 use Rattle.camlheap_run.proofs.GeneratingLemmas.{spelling_is}
-use Rattle.camlheap_run.proofs.WritingLemmas.{front_as, front_is_written, front_of_first, written_as, writes_both}
+use Rattle.text_ends.proofs.WritingLemmas.{front_is_written}
+use Rattle.camlheap_run.proofs.WritingLemmas.{front_as, front_of_first, written_as, writes_both}
 use Rattle.camlheap_run.proofs.generate.write_script.Goals as goal
 
 pub returns-in_err-write_all-clause-bytes : goal.returns-in_err-write_all-clause-bytes

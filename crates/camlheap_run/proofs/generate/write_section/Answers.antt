@@ -3,7 +3,8 @@ use Rattle.model_core.specs.declared.command.Command.{Command}
 use Rattle.model_core.specs.Output.{line}
 use Rattle.text_script.specs.Spelling.{heading_text}
 use Rattle.camlheap_run.specs.Generating.{commands_text}
-use Rattle.camlheap_run.proofs.WritingLemmas.{front_is_written, front_of_first, written_as, writes_both}
+use Rattle.text_ends.proofs.WritingLemmas.{front_is_written}
+use Rattle.camlheap_run.proofs.WritingLemmas.{front_of_first, written_as, writes_both}
 use Rattle.camlheap_run.proofs.generate.write_section.Goals as goal
 
 pub returns-in_err-write_heading-clause-bytes : goal.returns-in_err-write_heading-clause-bytes

@@ -2,7 +2,8 @@ use Rattle.std.proofs.Common.{◌∙◌, sym, subst, List, ℕ, arith}
 use Rattle.std.specs.Io.KnownBytes.{Appends}
 use Rattle.std.proofs.KnownBytes.{Appends-trans}
 use Rattle.camlheap_run.proofs.GeneratingLemmas.{sections_cut, sections_more}
-use Rattle.camlheap_run.proofs.WritingLemmas.{front_is_written, front_of_second}
+use Rattle.text_ends.proofs.WritingLemmas.{front_is_written}
+use Rattle.camlheap_run.proofs.WritingLemmas.{front_of_second}
 use Rattle.camlheap_run.proofs.generate.write_sections.Goals as goal
 
 pub sections-preserved : goal.sections-preserved

@@ -7,7 +7,7 @@ use Rattle.heap_rule.specs.Ending.{EndedHeap}
 use Rattle.camlheap_run.specs.declared.write.tellers.Teller.{Teller}
 use Rattle.camlheap_run.specs.Running.{IsHere, IsOver, IsPastOf}
 use Rattle.camlheap_run.specs.Telling.{IsTeller, run_of}
-use Rattle.camlheap_run.specs.Writing.{AppendsFront}
+use Rattle.text_ends.specs.Writing.{AppendsFront}
 use Rattle.camlheap_run.proofs.RunLemmas.{all_here, all_over}
 use Rattle.camlheap_run.proofs.TellingLemmas.{runs_driven, tellers_here, tellers_tell, texts_told}
 use Rattle.camlheap_run.proofs.run.script.run_together.Goals as goal

@@ -2,7 +2,8 @@ use Rattle.std.proofs.Common.{arith}
 use Rattle.model_core.specs.Output.{line}
 use Rattle.table_text.specs.declared.machine.reply.LineReply.TheVariants.{Done}
 use Rattle.table_text.specs.Machine.Texts.{line_reply_text}
-use Rattle.camlheap_run.proofs.WritingLemmas.{front_is_written, front_of_second, text_at}
+use Rattle.text_ends.proofs.WritingLemmas.{front_is_written}
+use Rattle.camlheap_run.proofs.WritingLemmas.{front_of_second, text_at}
 use Rattle.camlheap_run.proofs.table.replies.write_answers.Goals as goal
 
 pub returns-in_err-write_answer-clause-bytes : goal.returns-in_err-write_answer-clause-bytes

@@ -1,4 +1,5 @@
-use Rattle.camlheap_run.proofs.WritingLemmas.{front_is_written, front_of_first, writes_both}
+use Rattle.text_ends.proofs.WritingLemmas.{front_is_written}
+use Rattle.camlheap_run.proofs.WritingLemmas.{front_of_first, writes_both}
 use Rattle.camlheap_run.proofs.table.replies.write_section.Goals as goal
 
 pub returns-in_err-write_heading-clause-bytes : goal.returns-in_err-write_heading-clause-bytes

@@ -3,7 +3,8 @@ use Rattle.std.specs.Io.KnownBytes.{Appends}
 use Rattle.std.proofs.KnownBytes.{Appends-trans}
 use Rattle.table_text.specs.declared.machine.reply.LineReply.{LineReply}
 use Rattle.camlheap_run.proofs.SharingLemmas.{written_at, written_more}
-use Rattle.camlheap_run.proofs.WritingLemmas.{front_is_written, front_of_second}
+use Rattle.text_ends.proofs.WritingLemmas.{front_is_written}
+use Rattle.camlheap_run.proofs.WritingLemmas.{front_of_second}
 use Rattle.camlheap_run.proofs.table.replies.write_sections.Goals as goal
 
 pub sections-preserved : goal.sections-preserved

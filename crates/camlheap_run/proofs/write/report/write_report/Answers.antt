@@ -1,7 +1,9 @@
 use Rattle.std.proofs.Common.{subst, arith}
 use Rattle.run_turns.specs.Runs.{RunView}
-use Rattle.camlheap_run.specs.Writing.{AppendsFront, run_text}
-use Rattle.camlheap_run.proofs.WritingLemmas.{front_is_written, front_of_second, text_at}
+use Rattle.text_ends.specs.Writing.{AppendsFront}
+use Rattle.camlheap_run.specs.Writing.{run_text}
+use Rattle.text_ends.proofs.WritingLemmas.{front_is_written}
+use Rattle.camlheap_run.proofs.WritingLemmas.{front_of_second, text_at}
 use Rattle.camlheap_run.proofs.write.report.write_report.Goals as goal
 
 pub returns-in_err-write_run-clause-bytes : goal.returns-in_err-write_run-clause-bytes

@@ -2,7 +2,8 @@ use Rattle.std.proofs.Common.{◌++◌, ◌∙◌, sym, take, append_assoc}
 use Rattle.std.proofs.KnownBytes.{Appends-trans}
 use Rattle.std.specs.Slice.Iter.{chunks_rest}
 use Rattle.model_core.specs.Output.{line, reply_text, printed}
-use Rattle.camlheap_run.proofs.WritingLemmas.{front_is_written, front_of_second, text_by_parts}
+use Rattle.text_ends.proofs.WritingLemmas.{front_is_written}
+use Rattle.camlheap_run.proofs.WritingLemmas.{front_of_second, text_by_parts}
 use Rattle.camlheap_run.proofs.write.sections.write_replies.Goals as goal
 
 pub pages-preserved : goal.pages-preserved

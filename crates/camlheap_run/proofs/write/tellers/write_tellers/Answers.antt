@@ -1,8 +1,9 @@
 use Rattle.std.proofs.Common.{subst, arith}
 use Rattle.camlheap_run.specs.declared.write.tellers.Teller.{Teller}
 use Rattle.camlheap_run.specs.Telling.{teller_text}
-use Rattle.camlheap_run.specs.Writing.{AppendsFront}
-use Rattle.camlheap_run.proofs.WritingLemmas.{front_is_written, front_of_second, text_at}
+use Rattle.text_ends.specs.Writing.{AppendsFront}
+use Rattle.text_ends.proofs.WritingLemmas.{front_is_written}
+use Rattle.camlheap_run.proofs.WritingLemmas.{front_of_second, text_at}
 use Rattle.camlheap_run.proofs.write.tellers.write_tellers.Goals as goal
 
 pub returns-in_err-write_teller-clause-bytes : goal.returns-in_err-write_teller-clause-bytes
