@@ -13,11 +13,11 @@ use Rattle.weak_laws.specs.Tables.Performing.{full_of, writes}
 use Rattle.weak_laws.specs.Maps.Calls.{PerformedBy}
 use Rattle.weak_laws.proofs.OfTables.StageLemmas.{prefix_trans}
 use Rattle.weak_laws.proofs.OfMaps.CallLemmas.{alloc_step, ephe_step}
-use Rattle.weak_maps.specs.Beside.{refusals_by}
 use Rattle.weak_maps.specs.Walks.{OwnQuiet}
 use Rattle.weak_maps.proofs.BesideLemmas.{same_held, set_other}
 use Rattle.weak_maps.proofs.CountLemmas.{gives_one, refuses_one, writes_one}
 use Rattle.weak_maps.proofs.GetLemmas.{grows_by}
+use Rattle.weak_direct.specs.Frames.{Allocates}
 use Rattle.weak_direct.specs.Tries.{IsMake, KeepsBeside, Passes, Strides, TriedBy, ephemerons_by, labels_by}
 use Rattle.weak_direct.proofs.StepLemmas.{off_passes, off_quiet}
 
@@ -64,21 +64,6 @@ module _ (z : Sizes) (d : ℕ) (old new : List Entry) where
   make_stopped c None f none = off_quiet z d old new f
   make_stopped c (Some r) p none = cc
 
-  pub make_performed : (c : Command) (o : Option Reply) → TriedBy z d old new c o → IfSome o (PerformedBy z d old new c)
-  make_performed c None f = tt
-  make_performed c (Some r) p = p
-
-  pub make_refused : (c : Command) (o : Option Reply) → TriedBy z d old new c o → IfSome o (λ r. refusals_by d new ≡ refusals_by d old + full_of r)
-  make_refused c None f = tt
-  make_refused c (Some r) p = refuses_one z d old new c r p
-
-  pub make_labels : (c : Command) (o : Option Reply) → IsMake c → TriedBy z d old new c o → (was is : ℕ) → was ≡ is + labels_by c o → IfSome o (λ r. was + full_of r ≡ is + 1)
-  make_labels c None make f was is same = tt
-  make_labels c (Some r) make p was is same =
-      let gives = gives_one z d old new c r p in
-      let one : labels_of c ≡ 1 = ap (λ (b : Bool). cond b 1 0) (make_allocates c make) in
-      omega (arith, same, gives, one)
-
   pub make_lost : (c : Command) (o : Option Reply) → IsMake c → TriedBy z d old new c o → (was is : ℕ) → was ≡ is + labels_by c o → was ≤ is + 1
   make_lost c None make f was is same = omega (arith, same)
   make_lost c (Some r) make p was is same =
@@ -92,3 +77,14 @@ make_room c (Some r) was is more = let few = ephemerons_few c r in omega (arith,
 
 pub make_label : (c : Command) → IsMake c → (left : ℕ) → 1 ≤ left → labels_of c ≤ left
 make_label c make left some = let one : labels_of c ≡ 1 = ap (λ (b : Bool). cond b 1 0) (make_allocates c make) in omega (arith, some, one)
+
+pub make_made : {M : Type 0} (z : M → Sizes) (d : M → ℕ) (front : M → List Entry) (labels_left : M → ℕ) (old new : M) (c : Command) (o : Option Reply) → IsMake c → TriedBy (z old) (d old) (front old) (front new) c o → labels_left old ≡ labels_left new + labels_by c o
+    → IfSome o (Allocates z d front labels_left old new c)
+make_made z d front labels_left old new c None make f same = tt
+make_made z d front labels_left old new c (Some r) make p same =
+    let gives = gives_one (z old) (d old) (front old) (front new) c r p in
+    let one : labels_of c ≡ 1 = ap (λ (b : Bool). cond b 1 0) (make_allocates c make) in record {
+      labels = omega (arith, same, gives, one);
+      refused = refuses_one (z old) (d old) (front old) (front new) c r p;
+      performed = p;
+    }

@@ -4,6 +4,7 @@ pub mod MakeLemmas
 pub mod SharedLemmas
 pub mod TakeLemmas
 pub mod AllocLemmas
+pub mod FrameLemmas
 pub mod PutLemmas
 pub mod SettleLemmas
 pub mod TryLemmas

@@ -14,33 +14,19 @@ use Rattle.weak_maps.specs.Returns.{MakeReturns}
 use Rattle.weak_maps.proofs.CountLemmas.{gives_one, refuses_one, writes_one}
 use Rattle.weak_maps.proofs.GetLemmas.{grows_by}
 use Rattle.weak_maps.proofs.MakeLemmas.{made_map}
+use Rattle.weak_direct.specs.Frames.{MakesMap, PutsOff}
 use Rattle.weak_direct.specs.Tries.{TriedBy, labels_by}
 
-module _ (z : Sizes) (d : ℕ) (old new : List Entry) (dst : ℕ) where
-  pub make_grows : (o : Option Reply) → TriedBy z d old new (Alloc dst 0 512) o → IsPrefix old new
-  make_grows None f = record { rest = f.rest; appends = f.appends }
-  make_grows (Some r) p = grows_by z d old new (Alloc dst 0 512) r p
+module _ {M : Type 0} (z : M → Sizes) (d : M → ℕ) (front : M → List Entry) (labels_left : M → ℕ) (old new : M) (dst : ℕ) where
+  pub map_made : IsWithinLimits (z old) → dst < 8 → (o : Option Reply) → TriedBy (z old) (d old) (front old) (front new) (Alloc dst 0 512) o → labels_left old ≡ labels_left new + labels_by (Alloc dst 0 512) o → IfSome o (MakesMap z d front labels_left old new dst)
+  map_made limits few None f same = tt
+  map_made limits few (Some r) p same = record {
+    labels = (let gives = gives_one (z old) (d old) (front old) (front new) (Alloc dst 0 512) r p in omega (arith, same, gives));
+    refused = refuses_one (z old) (d old) (front old) (front new) (Alloc dst 0 512) r p;
+    written = writes_one (z old) (d old) (front old) (front new) (Alloc dst 0 512) r p;
+    made = made_map (z old) limits (d old) (front old) (front new) r dst few p;
+  }
 
-  pub make_labels : (was is : ℕ) (o : Option Reply) → TriedBy z d old new (Alloc dst 0 512) o → was ≡ is + labels_by (Alloc dst 0 512) o → IfSome o (λ r. was + full_of r ≡ is + 1)
-  make_labels was is None f same = tt
-  make_labels was is (Some r) p same = let gives = gives_one z d old new (Alloc dst 0 512) r p in omega (arith, same, gives)
-
-  pub make_refused : (o : Option Reply) → TriedBy z d old new (Alloc dst 0 512) o → IfSome o (λ r. Refuses d old new (full_of r))
-  make_refused None f = tt
-  make_refused (Some r) p = refuses_one z d old new (Alloc dst 0 512) r p
-
-  pub make_written : (o : Option Reply) → TriedBy z d old new (Alloc dst 0 512) o → IfSome o (λ r. Writes d old new (is_spared dst))
-  make_written None f = tt
-  make_written (Some r) p = writes_one z d old new (Alloc dst 0 512) r p
-
-  pub make_made : IsWithinLimits z → dst < 8 → (o : Option Reply) → TriedBy z d old new (Alloc dst 0 512) o → IfSome o (MakeReturns z d old new dst)
-  make_made limits few None f = tt
-  make_made limits few (Some r) p = made_map z limits d old new r dst few p
-
-  pub make_left : (was is : ℕ) (o : Option Reply) → was ≡ is + labels_by (Alloc dst 0 512) o → o ≡ None → is ≡ was
-  make_left was is None same none = omega (arith, same)
-  make_left was is (Some r) same none = cc
-
-  pub make_stopped : (o : Option Reply) → TriedBy z d old new (Alloc dst 0 512) o → o ≡ None → IsFrontOf d new old
-  make_stopped None f none = f
-  make_stopped (Some r) p none = cc
+  pub map_off : (o : Option Reply) → TriedBy (z old) (d old) (front old) (front new) (Alloc dst 0 512) o → labels_left old ≡ labels_left new + labels_by (Alloc dst 0 512) o → o ≡ None → PutsOff d front labels_left old new
+  map_off None f same none = record { left = omega (arith, same); front_is = f }
+  map_off (Some r) p same none = cc

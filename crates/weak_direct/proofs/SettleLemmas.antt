@@ -1,5 +1,5 @@
 -- One try of a put, where it is over and where it stops.
-use Rattle.std.proofs.Common.{◌≡◌, ℕ, ◌<◌, ◌%◌, ◌^◌, ◌++◌, ◌∷◌, List, Some, None, inl, inr, refl, subst, ◌∙◌}
+use Rattle.std.proofs.Common.{◌≡◌, ℕ, ◌<◌, ◌%◌, ◌^◌, ◌++◌, ◌∷◌, List, Some, None, inl, inr, refl, ap, subst, ◌∙◌}
 use Rattle.model_core.specs.declared.label.Label.{Label}
 use Rattle.model_core.specs.declared.command.Command.TheVariants.{Alloc, Cas, Store}
 use Rattle.model_core.specs.declared.entry.Entry.{Entry}
@@ -40,6 +40,12 @@ use Rattle.weak_direct.proofs.PutLemmas.{goes_over}
 -- a history is legal where it goes on legally
 legal_before : (z : Sizes) (now new : List Entry) → IsPrefix now new → Legal z new → Legal z now
 legal_before z now new x legal = (legal_parts (opening z) now x.rest (subst (Legal z) x.appends legal)).0
+
+-- the leaf in the way was stored where its key's way goes on, in the block for room
+pub stored_at : (z : Sizes) (d : ℕ) (a b : List Entry) (r : Reply) (j : Label) (level domains number rest digit : ℕ) → domains ≡ z.domains → number ≡ number_of domains j → rest ≡ rest_of number level → digit ≡ rest % node_width
+    → PerformedBy z d a b (Store 11 digit 9) r → PerformedBy z d a b (Store 11 (rest_of (number_of z.domains j) level % node_width) 9) r
+stored_at z d a b r j level domains number rest digit domains_is number_is rest_is digit_is p =
+    subst (λ (n : ℕ). PerformedBy z d a b (Store 11 n 9) r) (digit_is ∙ ap (λ (n : ℕ). n % node_width) (rest_is ∙ ap (λ (n : ℕ). rest_of n level) (number_is ∙ ap (λ (n : ℕ). number_of n j) domains_is))) p
 
 module _ (z : Sizes) (limits : IsWithinLimits z) (root : Label) (d : ℕ) (old now : List Entry) (k : Label) (v : Value) (kr : ℕ) (few : kr < 8) (key : held_by z d old kr ≡ Block k) (i rest level : ℕ) where
   -- the exchange by which the leaf is published

@@ -24,6 +24,7 @@ use Rattle.model_core.specs.History.{IsPrefix}
 use Rattle.model_core.specs.Laws.{written_by}
 use Rattle.model_core.proofs.Commands.FrameLemmas.{part_set}
 use Rattle.model_core.proofs.Histories.FrontLemmas.{keeps_front}
+use Rattle.model_core.proofs.OfCounts.Few.{ephemerons_few}
 use Rattle.weak_laws.specs.Tables.Thinning.{state_of}
 use Rattle.weak_laws.specs.Tables.Performing.{full_of, is_spared, writes}
 use Rattle.weak_laws.specs.Maps.Calls.{PerformedBy}
@@ -147,20 +148,27 @@ module _ (s : State) (d i : ℕ) (beside : IsBeside i) where
   same_outcome (GetData dst ephe) hand = at_leaf (block_in s d ephe) _ (λ l keys datum. into dst datum hand)
   same_outcome _ hand = absurd hand
 
--- it makes no block, and writes none of the registers that are counted
-pub makes_none : (c : Command) → IsBetween c → is_allocation c ≡ false
-makes_none (PutInt dst value) hand = refl
-makes_none (Copy dst src) hand = refl
-makes_none (Forget dst) hand = refl
-makes_none (Load dst src index) hand = refl
-makes_none (Store block index item) hand = refl
-makes_none (Cas block index expected item) hand = refl
-makes_none (SetKey ephe index item) hand = refl
-makes_none (GetKey dst ephe index) hand = refl
-makes_none (SetData ephe item) hand = refl
-makes_none (GetData dst ephe) hand = refl
-makes_none _ hand = absurd hand
+-- it makes no block and no ephemeron
+none_made : (c : Command) → IsBetween c → (is_allocation c ≡ false) × (ephemerons_of c ≡ 0)
+none_made (PutInt dst value) hand = (refl, refl)
+none_made (Copy dst src) hand = (refl, refl)
+none_made (Forget dst) hand = (refl, refl)
+none_made (Load dst src index) hand = (refl, refl)
+none_made (Store block index item) hand = (refl, refl)
+none_made (Cas block index expected item) hand = (refl, refl)
+none_made (SetKey ephe index item) hand = (refl, refl)
+none_made (GetKey dst ephe index) hand = (refl, refl)
+none_made (SetData ephe item) hand = (refl, refl)
+none_made (GetData dst ephe) hand = (refl, refl)
+none_made _ hand = absurd hand
 
+pub makes_none : (c : Command) → IsBetween c → is_allocation c ≡ false
+makes_none c hand = (none_made c hand).0
+
+pub room_none : (c : Command) → IsBetween c → ephemerons_of c ≡ 0
+room_none c hand = (none_made c hand).1
+
+-- and writes none of the registers that are counted
 unspared : (r : ℕ) → IsHand r → is_spared r ≡ 0
 unspared r hand = go (nat_le 1 r)
   where
@@ -191,30 +199,7 @@ labels_none c hand (Some r) = ap (λ (b : Bool). cond b (blocks_of r) 0) (makes_
 
 pub ephemerons_none : (c : Command) → IsBetween c → (o : Option Reply) → ephemerons_by c o ≡ 0
 ephemerons_none c hand None = refl
-ephemerons_none (PutInt dst value) hand (Some r) = refl
-ephemerons_none (Copy dst src) hand (Some r) = refl
-ephemerons_none (Forget dst) hand (Some r) = refl
-ephemerons_none (Load dst src index) hand (Some r) = refl
-ephemerons_none (Store block index item) hand (Some r) = refl
-ephemerons_none (Cas block index expected item) hand (Some r) = refl
-ephemerons_none (SetKey ephe index item) hand (Some r) = refl
-ephemerons_none (GetKey dst ephe index) hand (Some r) = refl
-ephemerons_none (SetData ephe item) hand (Some r) = refl
-ephemerons_none (GetData dst ephe) hand (Some r) = refl
-ephemerons_none _ hand (Some r) = absurd hand
-
-pub room_none : (c : Command) → IsBetween c → ephemerons_of c ≡ 0
-room_none (PutInt dst value) hand = refl
-room_none (Copy dst src) hand = refl
-room_none (Forget dst) hand = refl
-room_none (Load dst src index) hand = refl
-room_none (Store block index item) hand = refl
-room_none (Cas block index expected item) hand = refl
-room_none (SetKey ephe index item) hand = refl
-room_none (GetKey dst ephe index) hand = refl
-room_none (SetData ephe item) hand = refl
-room_none (GetData dst ephe) hand = refl
-room_none _ hand = absurd hand
+ephemerons_none c hand (Some r) = let few = ephemerons_few c r in let none = room_none c hand in omega (arith, few, none)
 
 module _ (z : Sizes) (d : ℕ) (old new : List Entry) where
   -- where a command is put off the domain's registers hold what they held
@@ -264,6 +249,10 @@ module _ (z : Sizes) (d : ℕ) (old new : List Entry) where
   pub tried_stopped : (c : Command) (o : Option Reply) → TriedBy z d old new c o → o ≡ None → OwnQuiet z d old new
   tried_stopped c None f none = off_quiet f
   tried_stopped c (Some r) p none = cc
+
+  pub tried_grows : (c : Command) (o : Option Reply) → TriedBy z d old new c o → IsPrefix old new
+  tried_grows c None f = record { rest = f.rest; appends = f.appends }
+  tried_grows c (Some r) p = grows_by z d old new c r p
 
   pub tried_made : (c : Command) (o : Option Reply) → TriedBy z d old new c o → IfSome o (PerformedBy z d old new c)
   tried_made c None f = tt

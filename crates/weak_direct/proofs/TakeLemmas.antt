@@ -1,5 +1,5 @@
 -- What `map_take` answers and leaves, and what it leaves where it stops.
-use Rattle.std.proofs.Common.{◌≡◌, ℕ, ◌<◌, true, false, List, inl, inr, refl, sym, subst, ◌∙◌}
+use Rattle.std.proofs.Common.{◌≡◌, ℕ, ◌<◌, Bool, true, false, List, inl, inr, refl, sym, subst, ◌∙◌}
 use Rattle.model_core.specs.declared.label.Label.{Label}
 use Rattle.model_core.specs.declared.command.Command.TheVariants.{Cas}
 use Rattle.model_core.specs.declared.entry.Entry.{Entry}
@@ -17,14 +17,18 @@ use Rattle.weak_laws.specs.Maps.Calls.{PerformedBy}
 use Rattle.weak_laws.proofs.OfMaps.WithinLemmas.{within_twice}
 use Rattle.weak_maps.specs.Beside.{held_by}
 use Rattle.weak_maps.specs.Fields.{Finds, Taking}
+use Rattle.weak_maps.specs.Guards.{Guards}
 use Rattle.weak_maps.specs.Walks.{Looking, OwnQuiet}
 use Rattle.weak_maps.proofs.BesideLemmas.{low_beside}
 use Rattle.weak_maps.proofs.GetLemmas.{grows_by}
-use Rattle.weak_maps.proofs.GuardLemmas.{quiet_twice}
+use Rattle.weak_maps.proofs.GuardLemmas.{guards_since, guards_twice, quiet_twice}
+use Rattle.weak_maps.proofs.MachineLemmas.{finds_at}
 use Rattle.weak_maps.proofs.StayLemmas.{looking_from, prefix_same, quiet_looks, respects_within, within_quiet}
-use Rattle.weak_maps.proofs.TakeLemmas.{cas_lost, cas_won, found_from}
+use Rattle.weak_maps.proofs.TakeLemmas.{cas_lost, cas_won, found_from, take_guards}
 use Rattle.weak_direct.specs.Leaves.{StopLeaves, StopsAt, TakeReturns}
+use Rattle.weak_direct.specs.Frames.{Goes, Looks}
 use Rattle.weak_direct.specs.Tries.{KeepsBeside}
+use Rattle.weak_direct.proofs.FrameLemmas.{goes_on, guards_on, performed_on}
 use Rattle.weak_direct.proofs.LookLemmas.{looking_over}
 
 -- a call that changed no block has changed no binding, and has written none
@@ -82,3 +86,24 @@ module _ (z : Sizes) (limits : IsWithinLimits z) (root : Label) (d : ℕ) (old :
       let f = found_from z limits root d old k kr few key now n0 i rest i2 rest2 s true finds taking grows (respects_within z root d old n1 old n0 (prefix_same old) g1 e1) in
       let m = f.3 in
       (cas_lost z limits root d old k m.front n0 n1 r i2 rest2 m.shows m.datum kr p e1 f.0 m.field m.leaf (f.1 kr (low_beside kr few) ∙ key) f.2 other).0
+
+-- a field was found that held the key, and was written or not, as the first domain tells it
+pub exchanged : {M H : Type 0} {z : M → Sizes} {d : M → ℕ} {of : M → H} {front : M → List Entry} {labels_left ephes_room : M → ℕ} {a b c e : M} → Goes z d of front labels_left ephes_room a b → Looks z d of front labels_left ephes_room b c → Goes z d of front labels_left ephes_room c e
+    → (kr : ℕ) (k : Label) (i rest i2 rest2 : ℕ) (s r : Reply) (mine : Bool) → mine ≡ true → Finds (z b) (d b) (front b) (front c) kr k i rest s i2 rest2 mine → PerformedBy (z c) (d c) (front c) (front e) (Cas 8 i2 9 10) r
+    → Finds (z a) (d a) (front b) (front c) kr k i rest s i2 rest2 true × PerformedBy (z a) (d a) (front c) (front e) (Cas 8 i2 9 10) r
+exchanged {z = z} {d = d} {front = front} {a = a} {b = b} {c = c} goes looks cas kr k i rest i2 rest2 s r mine is finds performed =
+    let stays = goes.keeps.stays in
+    (finds_at (z a) (z b) (d a) (d b) (front b) (front c) kr k i rest s i2 rest2 true mine stays.sizes stays.domain is finds, performed_on (goes_on goes looks.goes).keeps.stays performed)
+
+-- a try of a take: a field was found that held the key, it was written or not, and no block was written behind
+pub guards_tried : {M H : Type 0} {z : M → Sizes} {d : M → ℕ} {of : M → H} {front : M → List Entry} {labels_left ephes_room : M → ℕ} {a b c e f : M} → Goes z d of front labels_left ephes_room a b
+    → Looks z d of front labels_left ephes_room b c → Goes z d of front labels_left ephes_room c e → Looks z d of front labels_left ephes_room e f → IsWithinLimits (z a) → (root k : Label) (kr : ℕ) → kr < 8 → held_by (z a) (d a) (front a) kr ≡ Block k → (i rest i2 rest2 : ℕ) (s r : Reply) (mine : Bool)
+    → mine ≡ true → Finds (z b) (d b) (front b) (front c) kr k i rest s i2 rest2 mine → PerformedBy (z c) (d c) (front c) (front e) (Cas 8 i2 9 10) r
+    → Guards (z a) root (d a) (front a) (front a) (front b) → (OthersRespect (z a) root (d a) (front a) (front b) → Taking (z a) (d a) (front a) (front b) root k i rest s) → Guards (z a) root (d a) (front a) (front a) (front f)
+guards_tried {z = z} {d = d} {front = front} {a = a} {b = b} {c = c} {e = e} goes looks cas last limits root k kr few key i rest i2 rest2 s r mine is finds performed guards taking =
+    let stays = goes.keeps.stays in
+    let found = goes_on goes looks.goes in
+    let t = exchanged goes looks cas kr k i rest i2 rest2 s r mine is finds performed in
+    let own = take_guards (z a) limits root (d a) (front a) k kr few key (front b) (front c) (front e) i rest i2 rest2 s r t.0 taking looks.goes.passes.grows t.1 in
+    let tried = guards_since (z a) root (d a) (front a) (front c) (front e) (Cas 8 i2 9 10) r t.1 found.passes.grows own in
+    guards_on (goes_on found cas).keeps.stays (guards_twice (z a) root (d a) (front a) (front a) (front c) (front e) cas.passes.grows (guards_on stays guards looks) tried) last

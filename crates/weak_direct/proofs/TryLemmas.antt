@@ -1,5 +1,5 @@
 -- A put that makes one try: what it answers, and what it has done where it stops.
-use Rattle.std.proofs.Common.{◌≡◌, ◌≢◌, ℕ, ◌+◌, ◌<◌, ◌/◌, ◌%◌, List, Option, Some, None, inr, refl, sym, subst, arith}
+use Rattle.std.proofs.Common.{◌≡◌, ◌≢◌, ℕ, ◌+◌, ◌<◌, ◌/◌, ◌%◌, List, Option, Some, None, inr, refl, sym, ap, ◌∙◌, subst, arith}
 use Rattle.std.specs.Option.{IfSome}
 use Rattle.model_core.specs.declared.label.Label.{Label}
 use Rattle.model_core.specs.declared.command.Command.TheVariants.{Copy, Load}
@@ -23,11 +23,15 @@ use Rattle.weak_maps.specs.Puts.{Arrived, FindsField, GoesOn, KeepsLeaf, LeafMad
 use Rattle.weak_maps.specs.Walks.{OwnQuiet}
 use Rattle.weak_maps.proofs.GetLemmas.{grows_by}
 use Rattle.weak_maps.proofs.GuardLemmas.{guards_quiet, guards_then, guards_twice}
+use Rattle.weak_maps.specs.Frames.{Stays}
+use Rattle.weak_maps.proofs.MachineLemmas.{field_at, keeps_at}
 use Rattle.weak_maps.proofs.StayLemmas.{prefix_same, respects_within}
 use Rattle.weak_maps.proofs.TryLemmas.{put_arrives, put_begins}
 use Rattle.weak_direct.specs.Leaves.{StopLeaves, TakeLeaves}
-use Rattle.weak_direct.specs.Puts.{LeafStops, PutReturns, Settles, SettleStops, TryCounts}
-use Rattle.weak_direct.specs.Tries.{KeepsBeside, Strides}
+use Rattle.weak_direct.specs.Frames.{Looks}
+use Rattle.weak_direct.specs.Puts.{LeafStops, PutReturns, SettleCounts, Settles, SettleStops, TryCounts}
+use Rattle.weak_direct.specs.Tries.{KeepsBeside, ReadsRoot}
+use Rattle.weak_direct.proofs.FrameLemmas.{performed_on, stays_on}
 use Rattle.weak_direct.proofs.PutLemmas.{goes_over, goes_stops}
 
 -- no label is in the register of the key
@@ -57,25 +61,24 @@ put_held z d old new root v w k r held some x placed = subst (λ (u : Value). Pu
     of Nothing is y = absurd (is refl)
 
 -- what is known of a reply, where there is one
-pub some_then : (P Q : Reply → Type 0) (o : Option Reply) → ((r : Reply) → P r → Q r) → IfSome o P → IfSome o Q
-some_then P Q None then x = tt
-some_then P Q (Some r) then x = then r x
-
 pub some_with : (P Q R S : Reply → Type 0) (o : Option Reply) → ((r : Reply) → P r → Q r → R r → S r) → IfSome o P → IfSome o Q → IfSome o R → IfSome o S
 some_with P Q R S None then x y w = tt
 some_with P Q R S (Some r) then x y w = then r x y w
 
--- the counts of a try that is done, and of one that was refused room
-pub done_counts : (labels left refused now : ℕ) (r : Reply) → r ≡ reply.Done → now ≡ refused → labels ≡ left + 1 → TryCounts labels left refused now r
-done_counts labels left refused now r is none one = subst (TryCounts labels left refused now) (sym is) (none, one)
+-- the counts of the end of a try that is done, and of one that was refused room
+pub done_counts : (labels left refused now : ℕ) (r : Reply) → r ≡ reply.Done → now ≡ refused → left ≡ labels → SettleCounts labels left refused now r
+done_counts labels left refused now r is none same = subst (SettleCounts labels left refused now) (sym is) (none, sym same)
 
-pub full_counts : (labels left refused now : ℕ) (r : Reply) → r ≡ reply.Full → now ≡ refused + 1 → labels ≡ left + 1 → TryCounts labels left refused now r
-full_counts labels left refused now r is more one = subst (TryCounts labels left refused now) (sym is) (more, omega (arith, one), omega (arith, one))
+pub full_counts : (labels left refused now : ℕ) (r : Reply) → r ≡ reply.Full → now ≡ refused + 1 → labels ≡ left → SettleCounts labels left refused now r
+full_counts labels left refused now r is more same = subst (SettleCounts labels left refused now) (sym is) (more, same)
+
+-- and of the whole try, for which one leaf was made
+pub try_counts : (labels given left refused then now : ℕ) (r : Reply) → labels ≡ given + 1 → then ≡ refused → SettleCounts given left then now r → TryCounts labels left refused now r
+try_counts labels given left refused then now reply.Done one same x = (omega (arith, same, x.0), omega (arith, one, x.1))
+try_counts labels given left refused then now reply.Full one same x = (omega (arith, same, x.0), omega (arith, one, x.1), omega (arith, one, x.1))
+try_counts labels given left refused then now _ one same x = absurd x
 
 -- as a domain tells it before one of its numbers was seen to be the same
-pub strides_from : (z now : Sizes) (d e : ℕ) (old first new : List Entry) → now ≡ z → e ≡ d → first ≡ old → Strides now e first new → Strides z d old new
-strides_from z now d e old first new sizes domain front x = subst (λ (w : Sizes × ℕ × List Entry). Strides w.0 w.1 w.2 new) (λ i. (sizes i, domain i, front i)) x
-
 pub leaf_stops_at : (z now : Sizes) (d e : ℕ) (old first new : List Entry) (key item : ℕ) → now ≡ z → e ≡ d → first ≡ old → LeafStops now e first new key item → LeafStops z d old new key item
 leaf_stops_at z now d e old first new key item sizes domain front x = subst (λ (w : Sizes × ℕ × List Entry). LeafStops w.0 w.1 w.2 new key item) (λ i. (sizes i, domain i, front i)) x
 
@@ -118,17 +121,19 @@ module _ (z : Sizes) (limits : IsWithinLimits z) (root : Label) (d : ℕ) (old :
       subst (λ (w : ℕ × Option Label). Arrived z d old n3 root k v i2 rest2 w.0 w.1) (λ j. (exact j, is j))
       (put_arrives z limits root d old k v kr few key n2 n3 i rest i2 rest2 0 steps r2 found (putting (respects_within z root d old n3 old n2 (prefix_same old) grows respects)) finds own grows respects)
 
-  module _ (new : List Entry) (later : IsPrefix n3 new) where
-    before : OthersRespect z root d old new → Arrived z d old n3 root k v i2 rest2 steps other
-    before respects = arrived (respects_within z root d old new old n3 (prefix_same old) later respects)
+-- a put that has made a leaf, has read the root's field and has searched has come to the field at which its key's way ends
+pub arrived_by : {M H : Type 0} {z : M → Sizes} {d : M → ℕ} {of : M → H} {front : M → List Entry} {labels_left ephes_room : M → ℕ} {m a b e : M}
+    → Stays z d of m a → Looks z d of front labels_left ephes_room a b → Looks z d of front labels_left ephes_room b e → IsWithinLimits (z m) → (root k : Label) (v : Value) (kr : ℕ) → kr < 8 → held_by (z m) (d m) (front m) kr ≡ Block k → IsMap (graph_of (z m) (front m)) root → IsInPlace (z m).domains (graph_of (z m) (front m)) root
+    → (OthersRespect (z m) root (d m) (front m) (front a) → LeafMade (z m) (d m) (front m) (front a) root k v) → (mr : ℕ) → mr < 8 → held_by (z m) (d m) (front m) mr ≡ Block root
+    → (domains number i rest : ℕ) → domains ≡ (z a).domains → number ≡ number_of domains k → i ≡ number % root_width → rest ≡ number / root_width → (r : Reply) → ReadsRoot (z a) (d a) (front a) (front b) mr i r → (i2 rest2 steps : ℕ) (other : Option Label) → FindsField (z b) (d b) (front b) (front e) kr k i rest r i2 rest2 steps other → KeepsLeaf (z b) (d b) (front b) (front e) kr k i rest r
+    → OthersRespect (z m) root (d m) (front m) (front e) → Arrived (z m) (d m) (front m) (front e) root k v i2 rest2 steps other
+arrived_by {z = z} {d = d} {front = front} {m = m} {a = a} {b = b} {e = e} stays read search limits root k v kr few key map placed leaf mr few_map held domains number i rest domains_is number_is index_is rest_is r reads i2 rest2 steps other finds own =
+    let same = number_is ∙ ap (λ (n : ℕ). number_of n k) (domains_is ∙ ap (λ (y : Sizes). y.domains) stays.sizes) in
+    let there = stays_on stays read.goes.keeps.stays in
+    arrived (z m) limits root (d m) (front m) k v kr few key map placed (front a) reads.brought (front b) (front e) leaf reads.reply r mr few_map held i rest (index_is ∙ ap (λ (n : ℕ). n % root_width) same) (rest_is ∙ ap (λ (n : ℕ). n / root_width) same)
+    (performed_on stays reads.root) (performed_on stays reads.field) i2 rest2 steps other other refl (field_at (z m) (z b) (d m) (d b) (front b) (front e) kr k i rest r i2 rest2 steps other there.sizes there.domain finds)
+    (keeps_at (z m) (z b) (d m) (d b) (front b) (front e) kr k i rest r there.sizes there.domain own) search.goes.passes.grows
 
-    pub tried_answer : (r : Reply) → Settles z d n3 new k i2 rest2 steps other r → OthersRespect z root d old new → PutsOrFull z root d old new k v r × TakeLeaves z d old new root
-    tried_answer r settles respects = settles old root v kr few key map placed (before respects) respects
-
-    pub tried_stops : SettleStops z d n3 new k i2 rest2 steps other → OthersRespect z root d old new → StopLeaves z d old new root
-    tried_stops stops respects = stops old root v kr few key map placed (before respects) respects
-
-    pub tried_guards : SettleGuards z d n3 new k i2 rest2 steps other → Guards z root d old old n0 → IsPrefix n0 n3 → OwnQuiet z d n0 n3 → Guards z root d old old new
-    tried_guards guards begun since quiet =
-        guards_twice z root d old old n3 new later (tail_guards z root d old n0 n3 since quiet begun)
-        (guards_then z root d old n3 new (λ respects. guards old root v kr few key map placed (arrived respects)))
+-- behind a stretch in which a map was guarded, it is while a put tries a field, if it has come there
+pub settled_guards : (z : Sizes) (root : Label) (d : ℕ) (old now new : List Entry) → IsPrefix now new → Guards z root d old old now → (OthersRespect z root d old now → Guards z root d old now new) → Guards z root d old old new
+settled_guards z root d old now new grows begun then = guards_twice z root d old old now new grows begun (guards_then z root d old now new then)

@@ -1,3 +1,4 @@
 pub mod Tries
+pub mod Frames
 pub mod Leaves
 pub mod Puts

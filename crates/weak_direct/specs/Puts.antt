@@ -49,6 +49,15 @@ TryCounts labels left refused now r = ⊥
 abbrev pub TrySpends : ℕ → ℕ → ℕ → List Entry → List Entry → Reply → Type 0
 TrySpends d labels left old new r = TryCounts labels left (refusals_by d old) (refusals_by d new) r
 
+-- what the end of a try counts, behind the leaf that was made
+abbrev pub SettleCounts : ℕ → ℕ → ℕ → ℕ → Reply → Type 0
+SettleCounts labels left refused now reply.Done = (now ≡ refused) × (labels ≡ left)
+SettleCounts labels left refused now reply.Full = (now ≡ refused + 1) × (labels ≡ left)
+SettleCounts labels left refused now r = ⊥
+
+abbrev pub SettleSpends : {M : Type 0} → (M → ℕ) → (M → List Entry) → (M → ℕ) → M → M → Reply → Type 0
+SettleSpends d front labels_left old new r = SettleCounts (labels_left old) (labels_left new) (refusals_by (d old) (front old)) (refusals_by (d old) (front new)) r
+
 -- one that stops has changed no binding, and has written no block but of the map and of its own
 abbrev pub PutStops : Sizes → ℕ → List Entry → List Entry → ℕ → Type 0
 PutStops z d old new map = (root : Label) → held_by z d old map ≡ Block root → IsMap (graph_of z old) root → IsInPlace z.domains (graph_of z old) root → OthersRespect z root d old new → StopLeaves z d old new root

@@ -5,11 +5,13 @@ use Rattle.model_core.specs.declared.command.Command.TheVariants.{Alloc, Ephe, P
 use Rattle.model_core.specs.declared.entry.Entry.{Entry}
 use Rattle.model_core.specs.declared.reply.Reply.{Reply}
 use Rattle.model_core.specs.declared.state.Sizes.{Sizes}
+use Rattle.model_core.specs.declared.state.State.{State}
 use Rattle.model_core.specs.Counts.Counts.{ephemerons_given, labels_given}
 use Rattle.model_core.specs.Fronts.{IsFrontOf}
 use Rattle.model_core.specs.History.{IsPrefix}
+use Rattle.model_core.specs.Laws.{written_by}
 use Rattle.weak_laws.specs.Maps.Calls.{PerformedBy}
-use Rattle.weak_maps.specs.Beside.{held_by, refusals_by, writings_by}
+use Rattle.weak_maps.specs.Beside.{WritesAtMost, held_by, refusals_by, writings_by}
 use Rattle.weak_maps.specs.Fields.{IsBeside}
 use Rattle.weak_maps.specs.Walks.{OwnQuiet}
 
@@ -55,6 +57,24 @@ pub record Passes (z : Sizes) (d : ℕ) (old new : List Entry) : Type 0 where
   pub keeps : KeepsBeside z d old new
   pub given : refusals_by d new ≡ refusals_by d old
   pub written : writings_by d new ≡ writings_by d old
+
+-- no block was written, if the command writes none
+abbrev pub QuietIf : Sizes → ℕ → List Entry → List Entry → Command → Type 0
+QuietIf z d old new c = ((s : State) → written_by s d c ≡ None) → OwnQuiet z d old new
+
+-- a call that changed no block: the history has grown, none of its commands was refused, and at most so many wrote a register from 1 to 7
+pub record Reads (z : Sizes) (d : ℕ) (most : ℕ) (old new : List Entry) : Type 0 where
+  pub grows : IsPrefix old new
+  pub given : refusals_by d new ≡ refusals_by d old
+  pub written : WritesAtMost d old new most
+  pub quiet : OwnQuiet z d old new
+
+-- a field of a map's root was read: the map's block was brought into register 8, and what the field holds into register 9
+pub record ReadsRoot (z : Sizes) (d : ℕ) (old new : List Entry) (map index : ℕ) (r : Reply) : Type 0 where
+  pub brought : List Entry
+  pub reply : Reply
+  pub root : PerformedBy z d old brought (Copy 8 map) reply
+  pub field : PerformedBy z d brought new (Load 9 8 index) r
 
 -- a command that reads into a register, or empties it
 abbrev pub IsLast : Command → Type 0

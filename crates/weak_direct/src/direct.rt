@@ -2,18 +2,17 @@
 ghost use Rattle.std.specs.Prelude.{◌≡◌, ◌+◌, ◌<◌, ◌≤◌, ℕ, List, None, IfSome};
 ghost use Rattle.model_core.specs.declared.entry.Entry.{Entry};
 ghost use Rattle.model_core.specs.declared.state.Sizes.{Sizes};
-ghost use Rattle.model_core.specs.declared.state.State.{State};
 ghost use Rattle.model_core.specs.Commands.{shown};
 ghost use Rattle.model_core.specs.Counts.Counts.{ephemerons_of, labels_of};
 ghost use Rattle.model_core.specs.Domains.{IsWithinLimits};
-ghost use Rattle.model_core.specs.History.{IsPrefix};
-ghost use Rattle.model_core.specs.Laws.{written_by};
 ghost use Rattle.weak_laws.specs.Tables.Performing.{full_of, writes};
 ghost use Rattle.weak_laws.specs.Maps.Calls.{PerformedBy};
-ghost use Rattle.weak_maps.specs.Beside.{WritesAtMost, held_by, refusals_by};
+ghost use Rattle.weak_maps.specs.Beside.{held_by};
 ghost use Rattle.weak_maps.specs.Commands.{IsMapCommand};
 ghost use Rattle.weak_maps.specs.Walks.{OwnQuiet};
-ghost use Rattle.weak_direct.specs.Tries.{EndsBy, IsBetween, IsLast, IsMake, Passes, Strides, TriedBy, ephemerons_by, labels_by};
+ghost use Rattle.weak_direct.specs.Tries.{EndsBy, IsBetween, IsLast, IsMake, Passes, QuietIf, Reads, TriedBy, ephemerons_by, labels_by};
+ghost use Rattle.weak_maps.specs.Frames.{Stays};
+ghost use Rattle.weak_direct.specs.Frames.{Allocates, Goes, Keeps, Looks, Shows, Spends};
 
 use model_core::command::Command;
 use model_core::reply::Reply;
@@ -43,7 +42,7 @@ pub trait Direct {
     ghost ephes_room: { Self → ℕ };
 
     /// Nothing changes. The domain is one of the heap's, and the numbers are within their limits.
-    fn stands(&self)
+    fn shows_inside(&self)
         ensures inside { domain self.now < (sizes self.now).domains }
         ensures limits { IsWithinLimits (sizes self.now) };
 
@@ -54,12 +53,7 @@ pub trait Direct {
     /// The reply that shows what a register holds. No entry is made.
     fn show(&mut self, r: u8) -> Reply
         requires few { r < 16 }
-        ensures sizes { sizes self.new ≡ sizes self.old }
-        ensures domain { domain self.new ≡ domain self.old }
-        ensures heap { heap self.new ≡ heap self.old }
-        ensures front { front self.new ≡ front self.old }
-        ensures labels { labels_left self.new ≡ labels_left self.old }
-        ensures room { ephes_room self.new ≡ ephes_room self.old }
+        ensures shows { Shows sizes domain heap front labels_left ephes_room self.old self.new }
         ensures reply { result ≡ shown (held_by (sizes self.old) (domain self.old) (front self.old) r) };
 
     /// Makes a command at once, and answers its reply. The history grows by entries of other domains, and then by this one.
@@ -70,9 +64,7 @@ pub trait Direct {
         requires fits { IsMapCommand c }
         requires label { labels_of c ≤ labels_left self.old }
         requires room { ephemerons_of c ≤ ephes_room self.old }
-        ensures sizes { sizes self.new ≡ sizes self.old }
-        ensures domain { domain self.new ≡ domain self.old }
-        ensures heap { heap self.new ≡ heap self.old }
+        ensures stays { Stays sizes domain heap self.old self.new }
         ensures labels { labels_left self.old ≡ labels_left self.new + labels_by c result }
         ensures room { ephes_room self.old ≤ ephes_room self.new + ephemerons_by c result }
         ensures tried { TriedBy (sizes self.old) (domain self.old) (front self.old) (front self.new) c result };
@@ -83,13 +75,8 @@ pub trait Direct {
 pub fn step<M: Direct>(m: &mut M, c: Command) -> Option<Reply>
     requires fits { IsMapCommand c }
     requires between { IsBetween c }
-    ensures sizes { M.sizes m.new ≡ M.sizes m.old }
-    ensures domain { M.domain m.new ≡ M.domain m.old }
-    ensures heap { M.heap m.new ≡ M.heap m.old }
-    ensures labels { M.labels_left m.new ≡ M.labels_left m.old }
-    ensures room { M.ephes_room m.old ≤ M.ephes_room m.new }
-    ensures passes { Passes (M.sizes m.old) (M.domain m.old) (M.front m.old) (M.front m.new) }
-    ensures quiet { ((s : State) → written_by s (M.domain m.old) c ≡ None) → OwnQuiet (M.sizes m.old) (M.domain m.old) (M.front m.old) (M.front m.new) }
+    ensures goes { Goes M.sizes M.domain M.heap M.front M.labels_left M.ephes_room m.old m.new }
+    ensures quiet { QuietIf (M.sizes m.old) (M.domain m.old) (M.front m.old) (M.front m.new) c }
     ensures stopped { result ≡ None → OwnQuiet (M.sizes m.old) (M.domain m.old) (M.front m.old) (M.front m.new) }
     ensures performed { IfSome result (PerformedBy (M.sizes m.old) (M.domain m.old) (M.front m.old) (M.front m.new) c) }
 {
@@ -98,13 +85,7 @@ pub fn step<M: Direct>(m: &mut M, c: Command) -> Option<Reply>
 
 /// Empties the registers that the calls use between, as far as that is possible at once.
 pub fn clear<M: Direct>(m: &mut M)
-    ensures sizes { M.sizes m.new ≡ M.sizes m.old }
-    ensures domain { M.domain m.new ≡ M.domain m.old }
-    ensures heap { M.heap m.new ≡ M.heap m.old }
-    ensures labels { M.labels_left m.new ≡ M.labels_left m.old }
-    ensures room { M.ephes_room m.old ≤ M.ephes_room m.new }
-    ensures passes { Passes (M.sizes m.old) (M.domain m.old) (M.front m.old) (M.front m.new) }
-    ensures quiet { OwnQuiet (M.sizes m.old) (M.domain m.old) (M.front m.old) (M.front m.new) }
+    ensures looks { Looks M.sizes M.domain M.heap M.front M.labels_left M.ephes_room m.old m.new }
 {
     let _eight = step(m, Command::Forget { dst: 8 });
     let _nine = step(m, Command::Forget { dst: 9 });
@@ -118,17 +99,10 @@ pub fn clear<M: Direct>(m: &mut M)
 pub fn finish<M: Direct>(m: &mut M, c: Command) -> Option<Reply>
     requires fits { IsMapCommand c }
     requires last { IsLast c }
-    ensures sizes { M.sizes m.new ≡ M.sizes m.old }
-    ensures domain { M.domain m.new ≡ M.domain m.old }
-    ensures heap { M.heap m.new ≡ M.heap m.old }
-    ensures labels { M.labels_left m.new ≡ M.labels_left m.old }
-    ensures room { M.ephes_room m.old ≤ M.ephes_room m.new }
+    ensures keeps { Keeps M.sizes M.domain M.heap M.labels_left M.ephes_room m.old m.new }
+    ensures reads { Reads (M.sizes m.old) (M.domain m.old) (writes c) (M.front m.old) (M.front m.new) }
     ensures stopped { result ≡ None → Passes (M.sizes m.old) (M.domain m.old) (M.front m.old) (M.front m.new) }
-    ensures grows { IsPrefix (M.front m.old) (M.front m.new) }
-    ensures given { refusals_by (M.domain m.old) (M.front m.new) ≡ refusals_by (M.domain m.old) (M.front m.old) }
     ensures granted { IfSome result (λ r. full_of r ≡ 0) }
-    ensures written { WritesAtMost (M.domain m.old) (M.front m.old) (M.front m.new) (writes c) }
-    ensures quiet { OwnQuiet (M.sizes m.old) (M.domain m.old) (M.front m.old) (M.front m.new) }
     ensures ends { IfSome result (EndsBy (M.sizes m.old) (M.domain m.old) (M.front m.old) (M.front m.new) c) }
 {
     let reply = m.perform(c)?;
@@ -143,16 +117,9 @@ pub fn allocate<M: Direct>(m: &mut M, c: Command) -> Option<Reply>
     requires make { IsMake c }
     requires label { 1 ≤ M.labels_left m.old }
     requires room { ephemerons_of c ≤ M.ephes_room m.old }
-    ensures sizes { M.sizes m.new ≡ M.sizes m.old }
-    ensures domain { M.domain m.new ≡ M.domain m.old }
-    ensures heap { M.heap m.new ≡ M.heap m.old }
-    ensures lost { M.labels_left m.old ≤ M.labels_left m.new + 1 }
-    ensures labels { IfSome result (λ r. M.labels_left m.old + full_of r ≡ M.labels_left m.new + 1) }
-    ensures room { M.ephes_room m.old ≤ M.ephes_room m.new + ephemerons_of c }
-    ensures strides { Strides (M.sizes m.old) (M.domain m.old) (M.front m.old) (M.front m.new) }
-    ensures refused { IfSome result (λ r. refusals_by (M.domain m.old) (M.front m.new) ≡ refusals_by (M.domain m.old) (M.front m.old) + full_of r) }
+    ensures spends { Spends M.sizes M.domain M.heap M.front M.labels_left M.ephes_room 1 (ephemerons_of c) m.old m.new }
     ensures stopped { result ≡ None → OwnQuiet (M.sizes m.old) (M.domain m.old) (M.front m.old) (M.front m.new) }
-    ensures performed { IfSome result (PerformedBy (M.sizes m.old) (M.domain m.old) (M.front m.old) (M.front m.new) c) }
+    ensures made { IfSome result (Allocates M.sizes M.domain M.front M.labels_left m.old m.new c) }
 {
     m.perform(c)
 }

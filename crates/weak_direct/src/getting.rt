@@ -1,12 +1,11 @@
 //! What a key is bound to.
-ghost use Rattle.std.specs.Prelude.{◌≡◌, ◌+◌, ◌<◌, ◌≤◌, None, IfSome};
-ghost use Rattle.model_core.specs.History.{IsPrefix};
+ghost use Rattle.std.specs.Prelude.{◌≡◌, ◌<◌, None, IfSome};
 ghost use Rattle.weak_laws.specs.Tables.Performing.{full_of, is_spared};
-ghost use Rattle.weak_maps.specs.Beside.{WritesAtMost, refusals_by};
 ghost use Rattle.weak_maps.specs.Returns.{FollowsAt};
-ghost use Rattle.weak_maps.specs.Walks.{Descended, OwnQuiet};
+ghost use Rattle.weak_maps.specs.Walks.{Descended};
 ghost use Rattle.weak_direct.specs.Leaves.{GetsAt, LooksUp};
-ghost use Rattle.weak_direct.specs.Tries.{KeepsBeside, Passes};
+ghost use Rattle.weak_direct.specs.Tries.{KeepsBeside, Reads};
+ghost use Rattle.weak_direct.specs.Frames.{Keeps, Looks};
 
 use crate::direct::{Direct, finish, step};
 use model_core::command::Command;
@@ -18,16 +17,10 @@ use weak_maps::replies::{is_block, is_other_kind, is_this};
 // Follows the way to a key, which a register holds, to its end. Tells whether a leaf was met there: register 8 holds it.
 fn descend<M: Direct>(m: &mut M, map: u8, key: u8, label: &Label) -> Option<bool>
     requires few { (map < 8) × (key < 8) }
-    ensures sizes { M.sizes m.new ≡ M.sizes m.old }
-    ensures domain { M.domain m.new ≡ M.domain m.old }
-    ensures heap { M.heap m.new ≡ M.heap m.old }
-    ensures labels { M.labels_left m.new ≡ M.labels_left m.old }
-    ensures room { M.ephes_room m.old ≤ M.ephes_room m.new }
-    ensures passes { Passes (M.sizes m.old) (M.domain m.old) (M.front m.old) (M.front m.new) }
-    ensures quiet { OwnQuiet (M.sizes m.old) (M.domain m.old) (M.front m.old) (M.front m.new) }
+    ensures looks { Looks M.sizes M.domain M.heap M.front M.labels_left M.ephes_room m.old m.new }
     ensures met { IfSome result (λ met. Descended (M.sizes m.old) (M.domain m.old) (M.front m.old) (M.front m.new) map key label.now met) }
 {
-    m.stands();
+    m.shows_inside();
     let number = number_of(m.domains(), label);
     let mut rest = number / 512;
     let mut at = step(
@@ -61,13 +54,7 @@ fn descend<M: Direct>(m: &mut M, map: u8, key: u8, label: &Label) -> Option<bool
 // Looks a key up, which a register holds. Tells whether it found a leaf of the key: register 8 holds it.
 fn look_up<M: Direct>(m: &mut M, map: u8, key: u8, label: &Label) -> Option<bool>
     requires few { (map < 8) × (key < 8) }
-    ensures sizes { M.sizes m.new ≡ M.sizes m.old }
-    ensures domain { M.domain m.new ≡ M.domain m.old }
-    ensures heap { M.heap m.new ≡ M.heap m.old }
-    ensures labels { M.labels_left m.new ≡ M.labels_left m.old }
-    ensures room { M.ephes_room m.old ≤ M.ephes_room m.new }
-    ensures passes { Passes (M.sizes m.old) (M.domain m.old) (M.front m.old) (M.front m.new) }
-    ensures quiet { OwnQuiet (M.sizes m.old) (M.domain m.old) (M.front m.old) (M.front m.new) }
+    ensures looks { Looks M.sizes M.domain M.heap M.front M.labels_left M.ephes_room m.old m.new }
     ensures found { IfSome result (λ mine. LooksUp (M.sizes m.old) (M.domain m.old) (M.front m.old) (M.front m.new) map key label.now mine) }
 {
     if !descend(m, map, key, label)? {
@@ -91,21 +78,15 @@ fn look_up<M: Direct>(m: &mut M, map: u8, key: u8, label: &Label) -> Option<bool
 /// where a command is put off: then all registers but 8 to 11 hold what they held, and the call may be asked anew.
 pub fn map_get<M: Direct>(m: &mut M, dst: u8, map: u8, key: u8) -> Option<Reply>
     requires few { (dst < 8) × (map < 8) × (key < 8) }
-    ensures sizes { M.sizes m.new ≡ M.sizes m.old }
-    ensures domain { M.domain m.new ≡ M.domain m.old }
-    ensures heap { M.heap m.new ≡ M.heap m.old }
-    ensures grows { IsPrefix (M.front m.old) (M.front m.new) }
-    ensures labels { M.labels_left m.new ≡ M.labels_left m.old }
-    ensures room { M.ephes_room m.old ≤ M.ephes_room m.new }
-    ensures given { refusals_by (M.domain m.old) (M.front m.new) ≡ refusals_by (M.domain m.old) (M.front m.old) }
+    ensures keeps { Keeps M.sizes M.domain M.heap M.labels_left M.ephes_room m.old m.new }
+    ensures reads { Reads (M.sizes m.old) (M.domain m.old) (is_spared dst) (M.front m.old) (M.front m.new) }
     ensures granted { IfSome result (λ r. full_of r ≡ 0) }
-    ensures written { WritesAtMost (M.domain m.old) (M.front m.old) (M.front m.new) (is_spared dst) }
-    ensures quiet { OwnQuiet (M.sizes m.old) (M.domain m.old) (M.front m.old) (M.front m.new) }
-    ensures answer { IfSome result (GetsAt (M.sizes m.old) (M.domain m.old) (M.front m.old) (M.front m.new) dst map key) }
+    ensures answer { IfSome result
+        (GetsAt (M.sizes m.old) (M.domain m.old) (M.front m.old) (M.front m.new) dst map key) }
     ensures follows { FollowsAt (M.sizes m.old) (M.domain m.old) (M.front m.old) (M.front m.new) map }
     ensures stopped { result ≡ None → KeepsBeside (M.sizes m.old) (M.domain m.old) (M.front m.old) (M.front m.new) }
 {
-    m.stands();
+    m.shows_inside();
     let Reply::Block(label) = m.show(key) else {
         return Some(Reply::BadType);
     };

@@ -5,11 +5,11 @@ ghost use Rattle.weak_maps.specs.Beside.{refusals_by};
 ghost use Rattle.weak_maps.specs.Guards.{LeafGuards, PutGuards, SettleGuards};
 ghost use Rattle.weak_maps.specs.Puts.{MakesLeaf};
 ghost use Rattle.weak_maps.specs.Returns.{FollowsAt};
-ghost use Rattle.weak_direct.specs.Puts.{LeafStops, PutStops, PutsAt, Settles, SettleStops, TrySpends};
-ghost use Rattle.weak_direct.specs.Tries.{Passes, Strides};
+ghost use Rattle.weak_direct.specs.Puts.{LeafStops, PutStops, PutsAt, SettleSpends, SettleStops, Settles, TrySpends};
+ghost use Rattle.weak_direct.specs.Frames.{Goes, Spends};
 
 use crate::direct::{Direct, allocate, clear, step};
-use crate::taking::find;
+use crate::taking::{exchange, find, read_root};
 use model_core::command::Command;
 use model_core::label::Label;
 use model_core::reply::Reply;
@@ -23,19 +23,14 @@ fn make_leaf<M: Direct>(m: &mut M, key: u8, item: u8) -> Option<bool>
     requires few { (key < 8) × (item < 8) }
     requires label { 1 ≤ M.labels_left m.old }
     requires room { 1 ≤ M.ephes_room m.old }
-    ensures sizes { M.sizes m.new ≡ M.sizes m.old }
-    ensures domain { M.domain m.new ≡ M.domain m.old }
-    ensures heap { M.heap m.new ≡ M.heap m.old }
-    ensures lost { M.labels_left m.old ≤ M.labels_left m.new + 1 }
+    ensures spends { Spends M.sizes M.domain M.heap M.front M.labels_left M.ephes_room 1 1 m.old m.new }
     ensures labels { IfSome result (λ b. M.labels_left m.old ≡ M.labels_left m.new + cond b 1 0) }
-    ensures room { M.ephes_room m.old ≤ M.ephes_room m.new + 1 }
-    ensures strides { Strides (M.sizes m.old) (M.domain m.old) (M.front m.old) (M.front m.new) }
     ensures refused { IfSome result (λ b. refusals_by (M.domain m.old) (M.front m.new) ≡ refusals_by (M.domain m.old) (M.front m.old) + cond b 0 1) }
     ensures guards { LeafGuards (M.sizes m.old) (M.domain m.old) (M.front m.old) (M.front m.new) key item }
     ensures made { IfSome result (λ b. MakesLeaf (M.sizes m.old) (M.domain m.old) (M.front m.old) (M.front m.new) key item b) }
     ensures stopped { result ≡ None → LeafStops (M.sizes m.old) (M.domain m.old) (M.front m.old) (M.front m.new) key item }
 {
-    m.stands();
+    m.shows_inside();
     let made = allocate(m, Command::Ephe { dst: 10, keys: 1 })?;
     if is_full(&made) {
         return Some(false);
@@ -55,27 +50,14 @@ fn make_leaf<M: Direct>(m: &mut M, key: u8, item: u8) -> Option<bool>
 // Publishes the leaf in register 10 in the field to which a search came. None where that is put off, or another call has
 // written the field.
 fn publish<M: Direct>(m: &mut M, label: &Label, from: Search) -> Option<Reply>
-    ensures sizes { M.sizes m.new ≡ M.sizes m.old }
-    ensures domain { M.domain m.new ≡ M.domain m.old }
-    ensures heap { M.heap m.new ≡ M.heap m.old }
-    ensures labels { M.labels_left m.new ≡ M.labels_left m.old }
-    ensures room { M.ephes_room m.old ≤ M.ephes_room m.new }
-    ensures passes { Passes (M.sizes m.old) (M.domain m.old) (M.front m.old) (M.front m.new) }
+    ensures goes { Goes M.sizes M.domain M.heap M.front M.labels_left M.ephes_room m.old m.new }
     ensures done { IfSome result (λ r. r ≡ variant.Done) }
     ensures guards { SettleGuards (M.sizes m.old) (M.domain m.old) (M.front m.old) (M.front m.new) label.now from.index from.rest from.steps None }
     ensures settled { IfSome result (Settles (M.sizes m.old) (M.domain m.old) (M.front m.old) (M.front m.new) label.now from.index from.rest from.steps None) }
     ensures stopped { result ≡ None → SettleStops (M.sizes m.old) (M.domain m.old) (M.front m.old) (M.front m.new) label.now from.index from.rest from.steps None }
 {
-    m.stands();
-    let won = step(
-        m,
-        Command::Cas {
-            block: 8,
-            index: from.index,
-            expected: 9,
-            item: 10,
-        },
-    )?;
+    m.shows_inside();
+    let won = exchange(m, from.index, 10)?;
     if !is_yes(&won) {
         return None;
     }
@@ -87,20 +69,15 @@ fn publish<M: Direct>(m: &mut M, label: &Label, from: Search) -> Option<Reply>
 // refused, and else none: the key's way goes on there.
 fn deepen<M: Direct>(m: &mut M, label: &Label, from: Search, other: Label) -> Option<Reply>
     requires label { 1 ≤ M.labels_left m.old }
-    ensures sizes { M.sizes m.new ≡ M.sizes m.old }
-    ensures domain { M.domain m.new ≡ M.domain m.old }
-    ensures heap { M.heap m.new ≡ M.heap m.old }
-    ensures lost { M.labels_left m.old ≤ M.labels_left m.new + 1 }
+    ensures spends { Spends M.sizes M.domain M.heap M.front M.labels_left M.ephes_room 1 0 m.old m.new }
     ensures labels { IfSome result (λ r. M.labels_left m.old ≡ M.labels_left m.new) }
-    ensures room { M.ephes_room m.old ≤ M.ephes_room m.new }
-    ensures strides { Strides (M.sizes m.old) (M.domain m.old) (M.front m.old) (M.front m.new) }
     ensures refused { IfSome result (λ r. refusals_by (M.domain m.old) (M.front m.new) ≡ refusals_by (M.domain m.old) (M.front m.old) + 1) }
     ensures full { IfSome result (λ r. r ≡ variant.Full) }
     ensures guards { SettleGuards (M.sizes m.old) (M.domain m.old) (M.front m.old) (M.front m.new) label.now from.index from.rest from.steps (Some other) }
     ensures settled { IfSome result (Settles (M.sizes m.old) (M.domain m.old) (M.front m.old) (M.front m.new) label.now from.index from.rest from.steps (Some other)) }
     ensures stopped { result ≡ None → SettleStops (M.sizes m.old) (M.domain m.old) (M.front m.old) (M.front m.new) label.now from.index from.rest from.steps (Some other) }
 {
-    m.stands();
+    m.shows_inside();
     let _serial = serial_of(label);
     let _other_serial = serial_of(&other);
     let rest = rest_below(number_of(m.domains(), &other), from.steps);
@@ -124,16 +101,24 @@ fn deepen<M: Direct>(m: &mut M, label: &Label, from: Search, other: Label) -> Op
             item: 9,
         },
     )?;
-    let _deeper = step(
-        m,
-        Command::Cas {
-            block: 8,
-            index: from.index,
-            expected: 9,
-            item: 11,
-        },
-    )?;
+    let _deeper = exchange(m, from.index, 11)?;
     None
+}
+
+// Publishes the leaf in register 10 in the field to which a search came, or makes room there where a leaf of another key is in
+// the way.
+fn settle<M: Direct>(m: &mut M, label: &Label, from: Search) -> Option<Reply>
+    requires label { 1 ≤ M.labels_left m.old }
+    ensures spends { Spends M.sizes M.domain M.heap M.front M.labels_left M.ephes_room 1 0 m.old m.new }
+    ensures counts { IfSome result (SettleSpends M.domain M.front M.labels_left m.old m.new) }
+    ensures guards { SettleGuards (M.sizes m.old) (M.domain m.old) (M.front m.old) (M.front m.new) label.now from.index from.rest from.steps from.other }
+    ensures settled { IfSome result (Settles (M.sizes m.old) (M.domain m.old) (M.front m.old) (M.front m.new) label.now from.index from.rest from.steps from.other) }
+    ensures stopped { result ≡ None → SettleStops (M.sizes m.old) (M.domain m.old) (M.front m.old) (M.front m.new) label.now from.index from.rest from.steps from.other }
+{
+    match from.other {
+        None => publish(m, label, from),
+        Some(other) => deepen(m, label, from, other),
+    }
 }
 
 /// Binds the key in a register to what another holds, in the map in a third, whose leaves each stand on their key's way.
@@ -145,21 +130,17 @@ fn deepen<M: Direct>(m: &mut M, label: &Label, from: Search, other: Label) -> Op
 /// binding was changed, and the call may be asked anew.
 pub fn map_put<M: Direct>(m: &mut M, map: u8, key: u8, item: u8) -> Option<Reply>
     requires few { (map < 8) × (key < 8) × (item < 8) }
-    requires labels { 2 ≤ M.labels_left m.old }
-    requires room { 1 ≤ M.ephes_room m.old }
-    ensures sizes { M.sizes m.new ≡ M.sizes m.old }
-    ensures domain { M.domain m.new ≡ M.domain m.old }
-    ensures heap { M.heap m.new ≡ M.heap m.old }
-    ensures strides { Strides (M.sizes m.old) (M.domain m.old) (M.front m.old) (M.front m.new) }
-    ensures lost { M.labels_left m.old ≤ M.labels_left m.new + 2 }
-    ensures counts { IfSome result (TrySpends (M.domain m.old) (M.labels_left m.old) (M.labels_left m.new) (M.front m.old) (M.front m.new)) }
-    ensures room { M.ephes_room m.old ≤ M.ephes_room m.new + 1 }
+    requires left { (2 ≤ M.labels_left m.old) × (1 ≤ M.ephes_room m.old) }
+    ensures spends { Spends M.sizes M.domain M.heap M.front M.labels_left M.ephes_room 2 1 m.old m.new }
+    ensures counts { IfSome result
+        (TrySpends (M.domain m.old) (M.labels_left m.old) (M.labels_left m.new) (M.front m.old) (M.front m.new)) }
     ensures guards { PutGuards (M.sizes m.old) (M.domain m.old) (M.front m.old) (M.front m.new) map }
-    ensures answer { IfSome result (PutsAt (M.sizes m.old) (M.domain m.old) (M.front m.old) (M.front m.new) map key item) }
+    ensures answer { IfSome result
+        (PutsAt (M.sizes m.old) (M.domain m.old) (M.front m.old) (M.front m.new) map key item) }
     ensures follows { FollowsAt (M.sizes m.old) (M.domain m.old) (M.front m.old) (M.front m.new) map }
     ensures stopped { result ≡ None → PutStops (M.sizes m.old) (M.domain m.old) (M.front m.old) (M.front m.new) map }
 {
-    m.stands();
+    m.shows_inside();
     let Reply::Block(label) = m.show(key) else {
         return Some(Reply::BadType);
     };
@@ -173,19 +154,8 @@ pub fn map_put<M: Direct>(m: &mut M, map: u8, key: u8, item: u8) -> Option<Reply
         return Some(Reply::Full);
     }
     let number = number_of(m.domains(), &label);
-    let _root = step(m, Command::Copy { dst: 8, src: map })?;
     let first = from_root(number);
-    let at = step(
-        m,
-        Command::Load {
-            dst: 9,
-            src: 8,
-            index: first.index,
-        },
-    )?;
+    let at = read_root(m, map, first.index)?;
     let from = find(m, key, &label, first, at)?;
-    match from.other {
-        None => publish(m, &label, from),
-        Some(other) => deepen(m, &label, from, other),
-    }
+    settle(m, &label, from)
 }

@@ -24,7 +24,7 @@ impl Direct for SharedRun {
 
     ghost ephes_room = { λ s. s.run.token.view.own.ephemerons.room };
 
-    fn stands(&self) {
+    fn shows_inside(&self) {
         self.shows_here();
     }
 

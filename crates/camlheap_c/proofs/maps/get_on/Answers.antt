@@ -4,11 +4,23 @@ use Rattle.camlheap_c.proofs.maps.get_on.Goals as goal
 pub returns-in-None-clause-does : goal.returns-in-None-clause-does
 returns-in-None-clause-does c = λ few. record {
   on = record {
-    goes_on = record { heap = c.map_get.ensures.heap; number = c.map_get.ensures.domain; grows = c.map_get.ensures.grows };
-    quiet = c.map_get.ensures.quiet;
+    goes_on = record { heap = c.map_get.ensures.keeps.stays.heap; number = c.map_get.ensures.keeps.stays.domain; grows = c.map_get.ensures.reads.grows };
+    quiet = c.map_get.ensures.reads.quiet;
     follows = c.map_get.ensures.follows;
   };
   made = λ e. absurd (omega (arith, e));
   again = λ other. c.map_get.ensures.stopped c.in-None.is;
   unread = λ other. refl;
+}
+
+pub returns-in-Some-clause-does : goal.returns-in-Some-clause-does
+returns-in-Some-clause-does c = λ few. record {
+  on = record {
+    goes_on = record { heap = c.map_get.ensures.keeps.stays.heap; number = c.map_get.ensures.keeps.stays.domain; grows = c.map_get.ensures.reads.grows };
+    quiet = c.map_get.ensures.reads.quiet;
+    follows = c.map_get.ensures.follows;
+  };
+  made = λ e. record { reply = c.in-Some.answer; is_read = c.reply_of.ensures; holds = c.in-Some.ensures.answer };
+  again = λ other. absurd (other refl);
+  unread = λ other. absurd (other refl);
 }

@@ -3,8 +3,8 @@ use Rattle.camlheap_c.proofs.maps.take_on.Goals as goal
 
 pub returns-in-None-clause-does : goal.returns-in-None-clause-does
 returns-in-None-clause-does c = λ few. record {
-  goes_on = record { heap = c.map_take.ensures.heap; number = c.map_take.ensures.domain; grows = c.map_take.ensures.passes.grows };
-  keeps = c.map_take.ensures.passes.keeps;
+  goes_on = record { heap = c.map_take.ensures.goes.keeps.stays.heap; number = c.map_take.ensures.goes.keeps.stays.domain; grows = c.map_take.ensures.goes.passes.grows };
+  keeps = c.map_take.ensures.goes.passes.keeps;
   guards = c.map_take.ensures.guards;
   follows = c.map_take.ensures.follows;
   made = λ e. absurd (omega (arith, e));
@@ -14,8 +14,8 @@ returns-in-None-clause-does c = λ few. record {
 
 pub returns-in-Some-clause-does : goal.returns-in-Some-clause-does
 returns-in-Some-clause-does c = λ few. record {
-  goes_on = record { heap = c.map_take.ensures.heap; number = c.map_take.ensures.domain; grows = c.map_take.ensures.passes.grows };
-  keeps = c.map_take.ensures.passes.keeps;
+  goes_on = record { heap = c.map_take.ensures.goes.keeps.stays.heap; number = c.map_take.ensures.goes.keeps.stays.domain; grows = c.map_take.ensures.goes.passes.grows };
+  keeps = c.map_take.ensures.goes.passes.keeps;
   guards = c.map_take.ensures.guards;
   follows = c.map_take.ensures.follows;
   made = λ e. record { reply = c.in-Some.answer; is_read = c.reply_of.ensures; holds = c.in-Some.ensures.answer };

@@ -6,9 +6,8 @@ use Rattle.weak_laws.specs.Maps.Tries.{node_width, number_of, root_width}
 use Rattle.weak_laws.specs.Maps.Calls.{PerformedBy}
 use Rattle.weak_maps.specs.Walks.{Descends}
 use Rattle.weak_maps.proofs.StayLemmas.{prefix_same, respects_within}
-use Rattle.weak_maps.proofs.MachineLemmas.{at_machine}
 use Rattle.weak_maps.proofs.DescendLemmas.{descend_begins, descend_ends, descend_met, descend_next, descend_none}
-use Rattle.weak_direct.proofs.StepLemmas.{passes_after, quiet_after}
+use Rattle.weak_direct.proofs.FrameLemmas.{looks_on, looks_of, performed_on}
 use Rattle.weak_direct.proofs.getting.descend.Goals as goal
 
 pub levels-init : goal.levels-init
@@ -20,16 +19,10 @@ levels-init g c =
     let same : c.number_of-number.result ≡ number_of z.domains c.args.label.now = c.number_of-number.ensures.number ∙ ap (λ (n : ℕ). number_of n c.args.label.now) c.domains.ensures in
     let p = subst (λ (n : ℕ). PerformedBy z d old new (Load 8 c.args.map n) c.in_ok-at.at) (c.root_index.ensures ∙ ap (λ (n : ℕ). n % root_width) same) c.in_ok-at.ensures.performed in
     record {
-      same = c.step.ensures.sizes;
-      own = c.step.ensures.domain;
-      heap = c.step.ensures.heap;
-      labels = c.step.ensures.labels;
-      room = c.step.ensures.room;
-      passes = c.step.ensures.passes;
-      quiet = c.step.ensures.quiet (λ s. refl);
+      looks = looks_of c.step.ensures.goes (c.step.ensures.quiet (λ s. refl));
       walk = λ root held key map respects.
           subst (λ (n : ℕ). Descends z d old new root c.args.label.now c.in_ok-at.at 1 (n / root_width)) (sym same)
-          (descend_begins z c.stands.ensures.limits root d old c.args.label.now new c.in_ok-at.at c.args.map map held p respects);
+          (descend_begins z c.shows_inside.ensures.limits root d old c.args.label.now new c.in_ok-at.at c.args.map map held p respects);
     }
 
 pub returns-then-not-is_block-clause-met : goal.returns-then-not-is_block-clause-met
@@ -38,20 +31,14 @@ returns-then-not-is_block-clause-met g c =
     let d : ℕ = g.M.Direct.domain c.args.m.now in
     let old : List Entry = g.M.Direct.front c.args.m.now in
     λ root held key map respects.
-    descend_none z c.stands.ensures.limits root d old c.args.label.now _ c.levels.at _ c.levels.rest (c.levels.invariant.walk root held key map respects)
+    descend_none z c.shows_inside.ensures.limits root d old c.args.label.now _ c.levels.at _ c.levels.rest (c.levels.invariant.walk root held key map respects)
     (λ is. let clash : true ≡ false = sym (c.is_block.ensures.1 is) ∙ c.if-not-is_block.true in cc)
 
-pub returns-in_err-at-2-clause-passes : goal.returns-in_err-at-2-clause-passes
-returns-in_err-at-2-clause-passes g c = passes_after _ _ _ _ _ _ _ c.levels.invariant.same c.levels.invariant.own c.levels.invariant.passes c.step-in-levels.ensures.passes
+pub returns-in_err-at-2-clause-looks : goal.returns-in_err-at-2-clause-looks
+returns-in_err-at-2-clause-looks g c = looks_on c.levels.invariant.looks (looks_of c.step-in-levels.ensures.goes (c.step-in-levels.ensures.quiet (λ s. refl)))
 
-pub returns-in_err-at-2-clause-quiet : goal.returns-in_err-at-2-clause-quiet
-returns-in_err-at-2-clause-quiet g c = quiet_after _ _ _ _ _ _ _ c.levels.invariant.same c.levels.invariant.own c.step-in-levels.ensures.passes.grows c.levels.invariant.quiet (c.step-in-levels.ensures.quiet (λ s. refl))
-
-pub returns-then-is_other_kind-clause-passes : goal.returns-then-is_other_kind-clause-passes
-returns-then-is_other_kind-clause-passes g c = passes_after _ _ _ _ _ _ _ c.levels.invariant.same c.levels.invariant.own c.levels.invariant.passes c.step-in-levels.ensures.passes
-
-pub returns-then-is_other_kind-clause-quiet : goal.returns-then-is_other_kind-clause-quiet
-returns-then-is_other_kind-clause-quiet g c = quiet_after _ _ _ _ _ _ _ c.levels.invariant.same c.levels.invariant.own c.step-in-levels.ensures.passes.grows c.levels.invariant.quiet (c.step-in-levels.ensures.quiet (λ s. refl))
+pub returns-then-is_other_kind-clause-looks : goal.returns-then-is_other_kind-clause-looks
+returns-then-is_other_kind-clause-looks g c = looks_on c.levels.invariant.looks (looks_of c.step-in-levels.ensures.goes (c.step-in-levels.ensures.quiet (λ s. refl)))
 
 pub returns-then-is_other_kind-clause-met : goal.returns-then-is_other_kind-clause-met
 returns-then-is_other_kind-clause-met g c =
@@ -60,11 +47,11 @@ returns-then-is_other_kind-clause-met g c =
     let old : List Entry = g.M.Direct.front c.args.m.now in
     let now : List Entry = g.M.Direct.front c.levels.m in
     let new : List Entry = g.M.Direct.front c.step-in-levels.new.m in
-    let q = at_machine z _ d _ now new _ _ c.levels.invariant.same c.levels.invariant.own c.in_ok-at-2.ensures.performed in
+    let q = performed_on c.levels.invariant.looks.goes.keeps.stays c.in_ok-at-2.ensures.performed in
     let p = subst (λ (n : ℕ). PerformedBy z d now new (Load 8 8 n) c.in_ok-at-2.at) c.node_index.ensures q in
     λ root held key map respects.
-    descend_met z c.stands.ensures.limits root d old c.args.label.now c.args.key c.requires.few.1 key now new c.levels.at c.in_ok-at-2.at _ c.levels.rest p respects
-    (c.levels.invariant.walk root held key map (respects_within z root d old new old now (prefix_same old) c.step-in-levels.ensures.passes.grows respects)) (c.is_block.ensures.0 c.if-not-is_block.false) (c.is_other_kind.ensures.0 c.if-is_other_kind.true)
+    descend_met z c.shows_inside.ensures.limits root d old c.args.label.now c.args.key c.requires.few.1 key now new c.levels.at c.in_ok-at-2.at _ c.levels.rest p respects
+    (c.levels.invariant.walk root held key map (respects_within z root d old new old now (prefix_same old) c.step-in-levels.ensures.goes.passes.grows respects)) (c.is_block.ensures.0 c.if-not-is_block.false) (c.is_other_kind.ensures.0 c.if-is_other_kind.true)
 
 pub levels-preserved : goal.levels-preserved
 levels-preserved g c =
@@ -74,24 +61,14 @@ levels-preserved g c =
     let now : List Entry = g.M.Direct.front c.levels.m in
     let new : List Entry = g.M.Direct.front c.step-in-levels.new.m in
     let i = c.levels.invariant in
-    let q = at_machine z _ d _ now new _ _ i.same i.own c.in_ok-at-2.ensures.performed in
+    let q = performed_on i.looks.goes.keeps.stays c.in_ok-at-2.ensures.performed in
     let p = subst (λ (n : ℕ). PerformedBy z d now new (Load 8 8 n) c.in_ok-at-2.at) c.node_index.ensures q in
-    let one_more : suc (suc c.levels.counter) ≡ suc (c.levels.counter + 1) = omega arith in
-    let l0 = i.labels in
-    let l1 = c.step-in-levels.ensures.labels in
-    let r0 = i.room in
-    let r1 = c.step-in-levels.ensures.room in record {
-      same = c.step-in-levels.ensures.sizes ∙ i.same;
-      own = c.step-in-levels.ensures.domain ∙ i.own;
-      heap = c.step-in-levels.ensures.heap ∙ i.heap;
-      labels = omega (arith, l0, l1);
-      room = omega (arith, r0, r1);
-      passes = passes_after z _ d _ old now new i.same i.own i.passes c.step-in-levels.ensures.passes;
-      quiet = quiet_after z _ d _ old now new i.same i.own c.step-in-levels.ensures.passes.grows i.quiet (c.step-in-levels.ensures.quiet (λ s. refl));
+    let one_more : suc (suc c.levels.counter) ≡ suc (c.levels.counter + 1) = omega arith in record {
+      looks = looks_on i.looks (looks_of c.step-in-levels.ensures.goes (c.step-in-levels.ensures.quiet (λ s. refl)));
       walk = λ root held key map respects.
           subst (λ (n : ℕ). Descends z d old new root c.args.label.now c.in_ok-at-2.at n (c.levels.rest / node_width)) one_more
-          (descend_next z c.stands.ensures.limits root d old c.args.label.now c.args.key c.requires.few.1 key now new c.levels.at c.in_ok-at-2.at _ c.levels.rest p respects
-          (i.walk root held key map (respects_within z root d old new old now (prefix_same old) c.step-in-levels.ensures.passes.grows respects)) (c.is_block.ensures.0 c.if-not-is_block.false)
+          (descend_next z c.shows_inside.ensures.limits root d old c.args.label.now c.args.key c.requires.few.1 key now new c.levels.at c.in_ok-at-2.at _ c.levels.rest p respects
+          (i.walk root held key map (respects_within z root d old new old now (prefix_same old) c.step-in-levels.ensures.goes.passes.grows respects)) (c.is_block.ensures.0 c.if-not-is_block.false)
           (λ e. let clash : true ≡ false = sym (c.is_other_kind.ensures.1 e) ∙ c.if-is_other_kind.false in cc));
     }
 
@@ -102,4 +79,4 @@ returns-clause-met g c =
     let old : List Entry = g.M.Direct.front c.args.m.now in
     let all : c.levels.counter ≡ 6 = search rules in
     λ root held key map respects.
-    descend_ends z c.stands.ensures.limits root d old c.args.label.now _ c.levels.at _ c.levels.rest c.is_block-2.result (ap suc all) (c.levels.invariant.walk root held key map respects) c.is_block-2.ensures.0 c.is_block-2.ensures.1
+    descend_ends z c.shows_inside.ensures.limits root d old c.args.label.now _ c.levels.at _ c.levels.rest c.is_block-2.result (ap suc all) (c.levels.invariant.walk root held key map respects) c.is_block-2.ensures.0 c.is_block-2.ensures.1

@@ -1,4 +1,4 @@
-use Rattle.std.proofs.Common.{◌≡◌, ◌≤◌}
+use Rattle.std.proofs.Common.{◌≡◌}
 use Rattle.model_core.specs.declared.label.Label.{Label}
 use Rattle.model_core.specs.declared.graph.Value.TheVariants.{Block}
 use Rattle.weak_laws.specs.Tables.Stages.{graph_of}
@@ -7,17 +7,12 @@ use Rattle.weak_laws.specs.Maps.Steps.{OthersRespect}
 use Rattle.weak_maps.specs.Beside.{held_by}
 use Rattle.weak_maps.specs.Fields.{Taking}
 use Rattle.weak_maps.specs.Guards.{TakeGuards}
-use Rattle.weak_direct.specs.Tries.{Passes}
+use Rattle.weak_direct.specs.Frames.{Goes}
 use Rattle.weak_direct.proofs.taking.map_take.Given as goal
 
 abbrev pub invariant-tries : goal.invariant-tries
 invariant-tries g l = record {
-  same : g.M.Direct.sizes l.m ≡ g.M.Direct.sizes l.fn.m;
-  own : g.M.Direct.domain l.m ≡ g.M.Direct.domain l.fn.m;
-  heap : g.M.Direct.heap l.m ≡ g.M.Direct.heap l.fn.m;
-  labels : g.M.Direct.labels_left l.m ≡ g.M.Direct.labels_left l.fn.m;
-  room : g.M.Direct.ephes_room l.fn.m ≤ g.M.Direct.ephes_room l.m;
-  passes : Passes (g.M.Direct.sizes l.fn.m) (g.M.Direct.domain l.fn.m) (g.M.Direct.front l.fn.m) (g.M.Direct.front l.m);
+  goes : Goes g.M.Direct.sizes g.M.Direct.domain g.M.Direct.heap g.M.Direct.front g.M.Direct.labels_left g.M.Direct.ephes_room l.fn.m l.m;
   guards : TakeGuards (g.M.Direct.sizes l.fn.m) (g.M.Direct.domain l.fn.m) (g.M.Direct.front l.fn.m) (g.M.Direct.front l.m) l.map;
   walk : (root : Label) → held_by (g.M.Direct.sizes l.fn.m) (g.M.Direct.domain l.fn.m) (g.M.Direct.front l.fn.m) l.map ≡ Block root → IsMap (graph_of (g.M.Direct.sizes l.fn.m) (g.M.Direct.front l.fn.m)) root
       → OthersRespect (g.M.Direct.sizes l.fn.m) root (g.M.Direct.domain l.fn.m) (g.M.Direct.front l.fn.m) (g.M.Direct.front l.m)
