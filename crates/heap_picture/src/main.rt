@@ -31,21 +31,6 @@ use std::io::{Read, Write};
 use std::process::ExitCode;
 use text_script::ScriptFault;
 
-// Says why a script is refused, as `camlheap` does.
-fn tell(rt: &HostRuntime, fault: ScriptFault) {
-    let _ = match fault {
-        ScriptFault::Syntax { line } => eprintln!(rt; "script line {line}: syntax"),
-        ScriptFault::Order { line } => eprintln!(rt; "script line {line}: section order"),
-        ScriptFault::Range { line, which } => {
-            eprintln!(rt; "script line {line}: number {which} out of range")
-        }
-        ScriptFault::TooLong { .. } => eprintln!(rt; "script: more than 16777216 bytes"),
-        ScriptFault::TooMany { line } => eprintln!(rt; "script line {line}: too many commands"),
-        ScriptFault::Spawn { line } => eprintln!(rt; "script line {line}: spawn"),
-        ScriptFault::Memory => eprintln!(rt; "out of memory"),
-    };
-}
-
 // Reads the script, and writes its picture.
 fn run(rt: &HostRuntime) -> io::Result<Result<(), PictureFault>> {
     let mut bytes = Vec::new(rt.alloc());
@@ -63,7 +48,7 @@ fn main(rt: HostRuntime) -> ExitCode {
     match run(&rt) {
         Ok(Ok(())) => ExitCode::SUCCESS,
         Ok(Err(PictureFault::Script(fault))) if fault != ScriptFault::Memory => {
-            tell(&rt, fault);
+            let _ = eprintln!(rt; "{fault}");
             ExitCode::from(2)
         }
         Ok(Err(fault)) => {

@@ -29,7 +29,6 @@ use std::io::{BufReader, BufWriter, ErrorKind, Read, Write};
 use std::process::ExitCode;
 use std::{env, io};
 use text_ends::{Sink, Source, StdSink, StdSource};
-use text_script::ScriptFault;
 use text_script::schedule::text::ReplayFault;
 use words::{Asked, read_asked};
 
@@ -42,8 +41,35 @@ enum Outcome {
     Usage,
     Judged(Judged),
     NoSchedule,
-    Replay(JudgedReplay),
-    Table(JudgedTable),
+    Replay(ReplayFault),
+}
+
+// What came of a replay. An output that differs is one for which there is no history.
+fn outcome_of_replay(judged: JudgedReplay) -> Outcome {
+    match judged {
+        JudgedReplay::Legal => Outcome::Judged(Judged::Legal),
+        JudgedReplay::Differs { .. } => Outcome::Judged(Judged::NoneFound),
+        JudgedReplay::Replay(fault) => Outcome::Replay(fault),
+        JudgedReplay::NoSeparator => Outcome::Judged(Judged::NoSeparator),
+        JudgedReplay::TooLong => Outcome::Judged(Judged::TooLong),
+        JudgedReplay::ReadFault => Outcome::Judged(Judged::ReadFault),
+        JudgedReplay::WriteFault => Outcome::Judged(Judged::WriteFault),
+        JudgedReplay::Memory => Outcome::Judged(Judged::Memory),
+    }
+}
+
+// What came of a table's text.
+fn judged_as(judged: JudgedTable) -> Judged {
+    match judged {
+        JudgedTable::Legal => Judged::Legal,
+        JudgedTable::NoneFound { .. } => Judged::NoneFound,
+        JudgedTable::Text(fault) => Judged::Script(fault),
+        JudgedTable::NoSeparator => Judged::NoSeparator,
+        JudgedTable::TooLong => Judged::TooLong,
+        JudgedTable::ReadFault => Judged::ReadFault,
+        JudgedTable::WriteFault => Judged::WriteFault,
+        JudgedTable::Memory => Judged::Memory,
+    }
 }
 
 // The words behind the program's name.
@@ -133,7 +159,7 @@ fn judge_text<S: Source, K: Sink>(alloc: Global, asked: &Asked, src: &mut S, out
         let domains = asked.sizes.domains;
         Outcome::Judged(judge_sections(alloc, domains, asked.states, src, out))
     } else {
-        Outcome::Table(judge_table(alloc, &alone(&asked.sizes), src, out))
+        Outcome::Judged(judged_as(judge_table(alloc, &alone(&asked.sizes), src, out)))
     }
 }
 
@@ -148,7 +174,7 @@ fn judge_by<S: Source, K: Sink>(
     requires { IsWithinLimits asked.now.sizes }
 {
     if front == REPLAY {
-        Outcome::Replay(judge_replay(rt.alloc(), &asked.sizes, src, out))
+        outcome_of_replay(judge_replay(rt.alloc(), &asked.sizes, src, out))
     } else if front.starts_with(TABLE) {
         judge_text(rt.alloc(), asked, src, out)
     } else {
@@ -172,54 +198,13 @@ fn run(rt: &HostRuntime, asked: &Asked) -> io::Result<Outcome>
     }
 }
 
-// Says what is wrong with a script, as `camlheap` does.
-fn tell_fault(rt: &HostRuntime, fault: ScriptFault) -> io::Result<()> {
-    match fault {
-        ScriptFault::Syntax { line } => eprintln!(rt; "script line {line}: syntax"),
-        ScriptFault::Order { line } => eprintln!(rt; "script line {line}: section order"),
-        ScriptFault::Range { line, which } => {
-            eprintln!(rt; "script line {line}: number {which} out of range")
-        }
-        ScriptFault::TooLong { .. } => eprintln!(rt; "script: more than 16777216 bytes"),
-        ScriptFault::TooMany { line } => eprintln!(rt; "script line {line}: too many commands"),
-        ScriptFault::Spawn { line } => eprintln!(rt; "script line {line}: spawn"),
-        ScriptFault::Memory => eprintln!(rt; "out of memory"),
-    }
-}
-
 // Says what is wrong with a replay, as `camlheap` does.
 fn tell_replay_fault(rt: &HostRuntime, fault: ReplayFault) -> io::Result<()> {
     match fault {
         ReplayFault::Schedule { line } => eprintln!(rt; "schedule line {line}"),
-        ReplayFault::Script(fault) => tell_fault(rt, fault),
+        ReplayFault::Script(fault) => eprintln!(rt; "{fault}"),
         ReplayFault::NotReplayable { why } => eprintln!(rt; "not replayable: {why}"),
         ReplayFault::Memory => eprintln!(rt; "out of memory"),
-    }
-}
-
-// Says what went wrong with a replay.
-fn tell_replay(rt: &HostRuntime, judged: JudgedReplay) -> io::Result<()> {
-    match judged {
-        JudgedReplay::Legal | JudgedReplay::Differs { .. } => Ok(()),
-        JudgedReplay::Replay(fault) => tell_replay_fault(rt, fault),
-        JudgedReplay::NoSeparator => tell_judged(rt, Judged::NoSeparator),
-        JudgedReplay::TooLong => tell_judged(rt, Judged::TooLong),
-        JudgedReplay::ReadFault => tell_judged(rt, Judged::ReadFault),
-        JudgedReplay::WriteFault => tell_judged(rt, Judged::WriteFault),
-        JudgedReplay::Memory => tell_judged(rt, Judged::Memory),
-    }
-}
-
-// Says what went wrong with a table.
-fn tell_table(rt: &HostRuntime, judged: JudgedTable) -> io::Result<()> {
-    match judged {
-        JudgedTable::Legal | JudgedTable::NoneFound { .. } => Ok(()),
-        JudgedTable::Text(fault) => tell_fault(rt, fault),
-        JudgedTable::NoSeparator => tell_judged(rt, Judged::NoSeparator),
-        JudgedTable::TooLong => tell_judged(rt, Judged::TooLong),
-        JudgedTable::ReadFault => tell_judged(rt, Judged::ReadFault),
-        JudgedTable::WriteFault => tell_judged(rt, Judged::WriteFault),
-        JudgedTable::Memory => tell_judged(rt, Judged::Memory),
     }
 }
 
@@ -227,7 +212,7 @@ fn tell_table(rt: &HostRuntime, judged: JudgedTable) -> io::Result<()> {
 fn tell_judged(rt: &HostRuntime, judged: Judged) -> io::Result<()> {
     match judged {
         Judged::Legal | Judged::NoneFound | Judged::GaveUp => Ok(()),
-        Judged::Script(fault) => tell_fault(rt, fault),
+        Judged::Script(fault) => eprintln!(rt; "{fault}"),
         Judged::NoSeparator => eprintln!(rt; "no line --- between the script and the output"),
         Judged::TooLong => eprintln!(rt; "more than 1073741823 bytes"),
         Judged::ReadFault => eprintln!(rt; "read fault"),
@@ -246,32 +231,7 @@ fn tell(rt: &HostRuntime, outcome: Outcome) -> io::Result<()> {
         }
         Outcome::NoSchedule => eprintln!(rt; "history_check: the history has no schedule"),
         Outcome::Judged(judged) => tell_judged(rt, judged),
-        Outcome::Replay(judged) => tell_replay(rt, judged),
-        Outcome::Table(judged) => tell_table(rt, judged),
-    }
-}
-
-// The same of a replay.
-fn replay_number(judged: JudgedReplay) -> u8 {
-    match judged {
-        JudgedReplay::Legal => 0,
-        JudgedReplay::Replay(_) | JudgedReplay::NoSeparator | JudgedReplay::TooLong => 2,
-        JudgedReplay::ReadFault => 3,
-        JudgedReplay::WriteFault => 4,
-        JudgedReplay::Memory => 5,
-        JudgedReplay::Differs { .. } => 6,
-    }
-}
-
-// And of a table.
-fn table_number(judged: JudgedTable) -> u8 {
-    match judged {
-        JudgedTable::Legal => 0,
-        JudgedTable::Text(_) | JudgedTable::NoSeparator | JudgedTable::TooLong => 2,
-        JudgedTable::ReadFault => 3,
-        JudgedTable::WriteFault => 4,
-        JudgedTable::Memory => 5,
-        JudgedTable::NoneFound { .. } => 6,
+        Outcome::Replay(fault) => tell_replay_fault(rt, fault),
     }
 }
 
@@ -287,8 +247,7 @@ fn status_number(outcome: Outcome) -> u8 {
         Outcome::Judged(Judged::NoneFound) => 6,
         Outcome::Judged(Judged::GaveUp) => 7,
         Outcome::NoSchedule => 8,
-        Outcome::Replay(judged) => replay_number(judged),
-        Outcome::Table(judged) => table_number(judged),
+        Outcome::Replay(_) => 2,
     }
 }
 
