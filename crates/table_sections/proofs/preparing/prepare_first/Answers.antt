@@ -13,9 +13,9 @@ returns g c = record {
       let up = c.resume-domain.ensures in
       let laid = c.lay_out.ensures in
       let rests = c.rest.ensures in
-      let here : IsSeatOf s c.rest.result = subst (λ (v : SeatsView). IsSeatOf v c.rest.result) (laid.heap ∙ up.seats) rests.here in
+      let here : IsSeatOf s c.rest.result = subst (λ (v : SeatsView). IsSeatOf v c.rest.result) (laid.stays.heap ∙ up.seats) rests.here in
       let ready : IsReady s p 0 c.rest.result =
-      first_ready s p c.args.resting c.resume-domain.result.seat c.lay_out.new.m.seat c.rest.result c.requires.fresh up.same up.room up.polled rests.same here rests.stands laid.domain laid.labels laid.room
+      first_ready s p c.args.resting c.resume-domain.result.seat c.lay_out.new.m.seat c.rest.result c.requires.fresh up.same up.room up.polled rests.same here rests.stands laid.stays.domain laid.labels laid.room
       (c.in_ok-places.ensures.laid p refl) in
       let both : (c.rest.result, p) ≡ r = cc in
       subst (λ (w : SeatView × Places). IsReady s w.1 0 w.0) both ready;

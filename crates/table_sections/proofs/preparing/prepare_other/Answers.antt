@@ -13,10 +13,10 @@ returns g c = record {
       let up = c.resume-domain.ensures in
       let found = c.find.ensures in
       let rests = c.rest.ensures in
-      let here : IsSeatOf s c.rest.result = subst (λ (v : SeatsView). IsSeatOf v c.rest.result) (found.heap ∙ up.seats) rests.here in
+      let here : IsSeatOf s c.rest.result = subst (λ (v : SeatsView). IsSeatOf v c.rest.result) (found.stays.heap ∙ up.seats) rests.here in
       let yes : c.find.result ≡ true = search rules in
       let ready : IsReady s p c.args.resting.number c.rest.result =
-      other_ready s p c.args.resting c.resume-domain.result.seat c.find.new.m.seat c.rest.result c.requires.fresh c.requires.other up.same up.room up.polled rests.same here rests.stands found.domain found.labels found.room
+      other_ready s p c.args.resting c.resume-domain.result.seat c.find.new.m.seat c.rest.result c.requires.fresh c.requires.other up.same up.room up.polled rests.same here rests.stands found.stays.domain found.labels found.room
       (found.found yes) in
       let both : c.rest.result ≡ r = cc in
       subst (λ (v : SeatView). IsReady s p c.args.resting.number v) both ready;
