@@ -17,10 +17,10 @@ use std::marker::Model;
 const MOST_DOMAINS: usize = 8;
 
 /// A domain's own deque of hints, and those of the other domains, from which it may take hints. Of its
-/// own the first one that was noted is taken first.
+/// own the last one that was noted is taken first, so that of a tree it holds no more than its depth.
 ///
-/// While it has noted 4096 since one that it took itself left its deque empty, or where there is no
-/// memory for one more, what it notes is let go: the block stays grey, and a later walk finds it.
+/// While it holds 4096, or where there is no memory for one more, what it notes is let go: the block stays
+/// grey, and a later walk finds it.
 ///
 /// Beside its deque it has room for as many ephemerons as it may list, each of which may wait until a
 /// block is marked. An ephemeron that isn't woken is found by a later look at all of them.
@@ -49,7 +49,7 @@ impl Model for Hints {
 
     ghost view = { λ r. record { number = r.number; domains = r.domains; misses = r.misses; taken = r.taken; pushes = r.pushes; is_dry = r.is_dry; early = r.early } };
 
-    ghost invariant = { λ r. (worker_flavor r.own ≡ 0) × (vec_len r.others + 1 ≡ r.domains) × (r.number < r.domains) × (r.domains ≤ 8) };
+    ghost invariant = { λ r. (worker_flavor r.own ≡ 1) × (vec_len r.others + 1 ≡ r.domains) × (r.number < r.domains) × (r.domains ≤ 8) };
 }
 
 // The other domains' deques, for each domain.
@@ -73,7 +73,7 @@ impl Hints {
         trail: Trail,
         waiting: Waiting,
     ) -> Hints
-        requires fifo { worker_flavor own ≡ 0 }
+        requires lifo { worker_flavor own ≡ 1 }
         requires others { vec_len others + 1 ≡ domains }
         requires inside { number < domains }
         requires few { domains ≤ 8 }
@@ -207,9 +207,11 @@ impl Deck for Hints {
 
     fn own(&mut self) -> Option<Hint> {
         let hint = pop_hint(&mut self.own);
-        if holds_none(&self.own) {
-            self.noted = 0;
-        }
+        self.noted = if holds_none(&self.own) {
+            0
+        } else {
+            self.noted.saturating_sub(1)
+        };
         self.is_dry = hint.is_none();
         self.count(self.number, hint.is_some());
         hint

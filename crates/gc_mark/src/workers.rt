@@ -18,11 +18,11 @@ pub(crate) type Other = Stealer<Hint, Global>;
 
 // A deque for each domain.
 pub(crate) fn make_workers(alloc: Global, domains: u32) -> Result<Vec<Own>, AllocError>
-    ensures { IfOk result (λ v. (vec_len v ≡ domains) × ((k : ℕ) (d : _) → k < domains → worker_flavor (slice_index_or v.items k d) ≡ 0)) }
+    ensures { IfOk result (λ v. (vec_len v ≡ domains) × ((k : ℕ) (d : _) → k < domains → worker_flavor (slice_index_or v.items k d) ≡ 1)) }
 {
     let mut workers = Vec::new(alloc);
     for _domain in 0..domains {
-        workers.push(Own::new_fifo(alloc, HINTS_ROOM)?)?;
+        workers.push(Own::new_lifo(alloc, HINTS_ROOM)?)?;
     }
     Ok(workers)
 }
@@ -48,16 +48,16 @@ pub(crate) fn others_of(
 
 // Notes a hint in the domain's own deque. Where there is no memory for one more it is let go.
 pub(crate) fn push_hint(own: &mut Own, hint: Hint)
-    requires fifo { worker_flavor own.old ≡ 0 }
-    ensures fifo { worker_flavor own.new ≡ 0 }
+    requires lifo { worker_flavor own.old ≡ 1 }
+    ensures lifo { worker_flavor own.new ≡ 1 }
 {
     let _ = own.push_as::<Free>(hint);
 }
 
-// Takes the hint of the domain's own deque that was noted first.
+// Takes the hint of the domain's own deque that was noted last.
 pub(crate) fn pop_hint(own: &mut Own) -> Option<Hint>
-    requires fifo { worker_flavor own.old ≡ 0 }
-    ensures fifo { worker_flavor own.new ≡ 0 }
+    requires lifo { worker_flavor own.old ≡ 1 }
+    ensures lifo { worker_flavor own.new ≡ 1 }
 {
     own.pop()
 }

@@ -10,5 +10,5 @@ invariant-loop-number l =
     × ((k : ℕ) (d : _) → k < l.number → slice_index_or l.all.items k d ≡ uncounted k l.domains)
     × (vec_len l.workers + l.number ≡ l.domains)
     × (vec_len l.lists + l.number ≡ l.domains)
-    × ((k : ℕ) (d : _) → k < vec_len l.workers → worker_flavor (slice_index_or l.workers.items k d) ≡ 0)
+    × ((k : ℕ) (d : _) → k < vec_len l.workers → worker_flavor (slice_index_or l.workers.items k d) ≡ 1)
     × ((k : ℕ) (d : _) → k < vec_len l.lists → vec_len (slice_index_or l.lists.items k d) + 1 ≡ l.domains)
