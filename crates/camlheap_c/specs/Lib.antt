@@ -3,3 +3,4 @@ pub mod Exported
 pub mod Resting
 pub mod Asking
 pub mod Maps
+pub mod Lent

@@ -109,14 +109,13 @@ pub extern "C" fn camlheap_why(
     ensures asks { AsksWhy handle.old handle.new (label_of maker serial) way.new fields.old fields.new result }
     ensures unread { result ≢ 0 → (way.new ≡ way.old) × (fields.new ≡ fields.old) }
 {
-    let Some(mut run) = handle.take(alloc) else {
+    if !handle.is_full() {
         return NO_DOMAIN;
-    };
+    }
+    let run = handle.lend();
     let target = Label {
         domain: maker,
         serial,
     };
-    let told = ask_why(alloc, &mut run, target, most, way, fields);
-    *handle = CamlheapDomain::of(run);
-    told
+    ask_why(alloc, run, target, most, way, fields)
 }

@@ -35,26 +35,20 @@ fn begin_on(run: &mut SharedRun, command: Command, reply: &mut CamlheapReply) ->
 
 // Makes a command of the domain in a handle so.
 #[inline(always)]
-fn call(
-    alloc: Global,
-    handle: &mut CamlheapDomain,
-    command: Command,
-    reply: &mut CamlheapReply,
-) -> u32
+fn call(handle: &mut CamlheapDomain, command: Command, reply: &mut CamlheapReply) -> u32
     ensures { CallsDirectly handle.old handle.new command reply.old reply.new result }
 {
-    let Some(mut run) = handle.take(alloc) else {
-        return NO_DOMAIN;
-    };
-    let told = begin_on(&mut run, command, reply);
-    *handle = CamlheapDomain::of(run);
-    told
+    if handle.is_full() {
+        begin_on(handle.lend(), command, reply)
+    } else {
+        NO_DOMAIN
+    }
 }
 
 /// An integer into a register: its reply is always `ok`.
 #[unsafe(no_mangle)]
 pub extern "C" fn camlheap_put_int(
-    alloc: Global,
+    _alloc: Global,
     handle: &mut CamlheapDomain,
     dst: u8,
     value: i64,
@@ -62,13 +56,13 @@ pub extern "C" fn camlheap_put_int(
 ) -> u32
     ensures { CallsDirectly handle.old handle.new (model.PutInt dst value) reply.old reply.new result }
 {
-    call(alloc, handle, Command::PutInt { dst, value }, reply)
+    call(handle, Command::PutInt { dst, value }, reply)
 }
 
 /// What a register holds into another.
 #[unsafe(no_mangle)]
 pub extern "C" fn camlheap_copy(
-    alloc: Global,
+    _alloc: Global,
     handle: &mut CamlheapDomain,
     dst: u8,
     src: u8,
@@ -76,26 +70,26 @@ pub extern "C" fn camlheap_copy(
 ) -> u32
     ensures { CallsDirectly handle.old handle.new (model.Copy dst src) reply.old reply.new result }
 {
-    call(alloc, handle, Command::Copy { dst, src }, reply)
+    call(handle, Command::Copy { dst, src }, reply)
 }
 
 /// A register holds nothing any more.
 #[unsafe(no_mangle)]
 pub extern "C" fn camlheap_forget(
-    alloc: Global,
+    _alloc: Global,
     handle: &mut CamlheapDomain,
     dst: u8,
     reply: &mut CamlheapReply,
 ) -> u32
     ensures { CallsDirectly handle.old handle.new (model.Forget dst) reply.old reply.new result }
 {
-    call(alloc, handle, Command::Forget { dst }, reply)
+    call(handle, Command::Forget { dst }, reply)
 }
 
 /// A new young block.
 #[unsafe(no_mangle)]
 pub extern "C" fn camlheap_alloc(
-    alloc: Global,
+    _alloc: Global,
     handle: &mut CamlheapDomain,
     dst: u8,
     tag: u8,
@@ -104,13 +98,13 @@ pub extern "C" fn camlheap_alloc(
 ) -> u32
     ensures { CallsDirectly handle.old handle.new (model.Alloc dst tag fields) reply.old reply.new result }
 {
-    call(alloc, handle, Command::Alloc { dst, tag, fields }, reply)
+    call(handle, Command::Alloc { dst, tag, fields }, reply)
 }
 
 /// A field of a block into a register.
 #[unsafe(no_mangle)]
 pub extern "C" fn camlheap_load(
-    alloc: Global,
+    _alloc: Global,
     handle: &mut CamlheapDomain,
     dst: u8,
     src: u8,
@@ -119,13 +113,13 @@ pub extern "C" fn camlheap_load(
 ) -> u32
     ensures { CallsDirectly handle.old handle.new (model.Load dst src index) reply.old reply.new result }
 {
-    call(alloc, handle, Command::Load { dst, src, index }, reply)
+    call(handle, Command::Load { dst, src, index }, reply)
 }
 
 /// What a register holds into a field of a block.
 #[unsafe(no_mangle)]
 pub extern "C" fn camlheap_store(
-    alloc: Global,
+    _alloc: Global,
     handle: &mut CamlheapDomain,
     block: u8,
     index: u16,
@@ -134,13 +128,13 @@ pub extern "C" fn camlheap_store(
 ) -> u32
     ensures { CallsDirectly handle.old handle.new (model.Store block index item) reply.old reply.new result }
 {
-    call(alloc, handle, Command::Store { block, index, item }, reply)
+    call(handle, Command::Store { block, index, item }, reply)
 }
 
 /// What a register holds into a field of a block, where that holds what another register holds.
 #[unsafe(no_mangle)]
 pub extern "C" fn camlheap_cas(
-    alloc: Global,
+    _alloc: Global,
     handle: &mut CamlheapDomain,
     block: u8,
     index: u16,
@@ -151,7 +145,6 @@ pub extern "C" fn camlheap_cas(
     ensures { CallsDirectly handle.old handle.new (model.Cas block index expected item) reply.old reply.new result }
 {
     call(
-        alloc,
         handle,
         Command::Cas {
             block,
@@ -166,7 +159,7 @@ pub extern "C" fn camlheap_cas(
 /// A block into a key of an ephemeron.
 #[unsafe(no_mangle)]
 pub extern "C" fn camlheap_set_key(
-    alloc: Global,
+    _alloc: Global,
     handle: &mut CamlheapDomain,
     ephe: u8,
     index: u16,
@@ -175,13 +168,13 @@ pub extern "C" fn camlheap_set_key(
 ) -> u32
     ensures { CallsDirectly handle.old handle.new (model.SetKey ephe index item) reply.old reply.new result }
 {
-    call(alloc, handle, Command::SetKey { ephe, index, item }, reply)
+    call(handle, Command::SetKey { ephe, index, item }, reply)
 }
 
 /// A key of an ephemeron into a register.
 #[unsafe(no_mangle)]
 pub extern "C" fn camlheap_get_key(
-    alloc: Global,
+    _alloc: Global,
     handle: &mut CamlheapDomain,
     dst: u8,
     ephe: u8,
@@ -190,13 +183,13 @@ pub extern "C" fn camlheap_get_key(
 ) -> u32
     ensures { CallsDirectly handle.old handle.new (model.GetKey dst ephe index) reply.old reply.new result }
 {
-    call(alloc, handle, Command::GetKey { dst, ephe, index }, reply)
+    call(handle, Command::GetKey { dst, ephe, index }, reply)
 }
 
 /// Whether a key of an ephemeron is full.
 #[unsafe(no_mangle)]
 pub extern "C" fn camlheap_check_key(
-    alloc: Global,
+    _alloc: Global,
     handle: &mut CamlheapDomain,
     ephe: u8,
     index: u16,
@@ -204,13 +197,13 @@ pub extern "C" fn camlheap_check_key(
 ) -> u32
     ensures { CallsDirectly handle.old handle.new (model.CheckKey ephe index) reply.old reply.new result }
 {
-    call(alloc, handle, Command::CheckKey { ephe, index }, reply)
+    call(handle, Command::CheckKey { ephe, index }, reply)
 }
 
 /// What a register holds into the data of an ephemeron.
 #[unsafe(no_mangle)]
 pub extern "C" fn camlheap_set_data(
-    alloc: Global,
+    _alloc: Global,
     handle: &mut CamlheapDomain,
     ephe: u8,
     item: u8,
@@ -218,13 +211,13 @@ pub extern "C" fn camlheap_set_data(
 ) -> u32
     ensures { CallsDirectly handle.old handle.new (model.SetData ephe item) reply.old reply.new result }
 {
-    call(alloc, handle, Command::SetData { ephe, item }, reply)
+    call(handle, Command::SetData { ephe, item }, reply)
 }
 
 /// The data of an ephemeron into a register.
 #[unsafe(no_mangle)]
 pub extern "C" fn camlheap_get_data(
-    alloc: Global,
+    _alloc: Global,
     handle: &mut CamlheapDomain,
     dst: u8,
     ephe: u8,
@@ -232,17 +225,17 @@ pub extern "C" fn camlheap_get_data(
 ) -> u32
     ensures { CallsDirectly handle.old handle.new (model.GetData dst ephe) reply.old reply.new result }
 {
-    call(alloc, handle, Command::GetData { dst, ephe }, reply)
+    call(handle, Command::GetData { dst, ephe }, reply)
 }
 
 /// A step of the collector's.
 #[unsafe(no_mangle)]
 pub extern "C" fn camlheap_poll(
-    alloc: Global,
+    _alloc: Global,
     handle: &mut CamlheapDomain,
     reply: &mut CamlheapReply,
 ) -> u32
     ensures { CallsDirectly handle.old handle.new (model.Poll) reply.old reply.new result }
 {
-    call(alloc, handle, Command::Poll, reply)
+    call(handle, Command::Poll, reply)
 }

@@ -28,7 +28,7 @@ fn submit_to(run: &mut SharedRun, command: &CamlheapCommand) -> u32
 /// Hands in the next command of a domain. `DONE` where it was taken, and else why not; then nothing has changed.
 #[unsafe(no_mangle)]
 pub extern "C" fn camlheap_submit(
-    alloc: Global,
+    _alloc: Global,
     handle: &mut CamlheapDomain,
     command: &CamlheapCommand,
 ) -> u32
@@ -38,30 +38,28 @@ pub extern "C" fn camlheap_submit(
     ensures why { handle.old.full ≡ true → result ≢ 0 → RefusesAs handle.old.value (command_as command.now) result }
     ensures refused { handle.old.full ≡ true → result ≢ 0 → handle.new.value ≡ handle.old.value }
 {
-    let Some(mut run) = handle.take(alloc) else {
+    if !handle.is_full() {
         return NO_DOMAIN;
-    };
-    let told = submit_to(&mut run, command);
-    *handle = CamlheapDomain::of(run);
-    told
+    }
+    let run = handle.lend();
+    submit_to(run, command)
 }
 
 /// One turn of a domain: `AGAIN` where it did something, `WAITING` where others are missing, `HUNGRY` where it has no
 /// command to make, `ENDED` where the traces of all domains have ended.
 #[unsafe(no_mangle)]
-pub extern "C" fn camlheap_turn(alloc: Global, handle: &mut CamlheapDomain) -> u32
+pub extern "C" fn camlheap_turn(_alloc: Global, handle: &mut CamlheapDomain) -> u32
     ensures kept { handle.new.full ≡ handle.old.full }
     ensures none { (handle.old.full ≡ false) ↔ (result ≡ 16) }
     ensures heap { handle.old.full ≡ true → handle.new.value.heap ≡ handle.old.value.heap }
     ensures stretch { handle.old.full ≡ true → TakesTurn handle.old.value handle.new.value }
     ensures ended { handle.old.full ≡ true → result ≡ 4 → handle.new.value.run.ended ≡ true }
 {
-    let Some(mut run) = handle.take(alloc) else {
+    if !handle.is_full() {
         return NO_DOMAIN;
-    };
-    let told = turn_code(run.turn());
-    *handle = CamlheapDomain::of(run);
-    told
+    }
+    let run = handle.lend();
+    turn_code(run.turn())
 }
 
 // Turns of a domain until its command is made, or it can't go on by itself.
@@ -87,7 +85,7 @@ fn turns_of(run: &mut SharedRun, turns: u32, reply: &mut CamlheapReply) -> u32
 /// all turns were taken; and else what the last turn answered.
 #[unsafe(no_mangle)]
 pub extern "C" fn camlheap_run(
-    alloc: Global,
+    _alloc: Global,
     handle: &mut CamlheapDomain,
     turns: u32,
     reply: &mut CamlheapReply,
@@ -98,12 +96,11 @@ pub extern "C" fn camlheap_run(
     ensures told { handle.old.full ≡ true → result < 5 }
     ensures unread { handle.old.full ≡ false → reply.new ≡ reply.old }
 {
-    let Some(mut run) = handle.take(alloc) else {
+    if !handle.is_full() {
         return NO_DOMAIN;
-    };
-    let told = turns_of(&mut run, turns, reply);
-    *handle = CamlheapDomain::of(run);
-    told
+    }
+    let run = handle.lend();
+    turns_of(run, turns, reply)
 }
 
 // Makes a command at once, where that can be, and else hands it in and takes turns.
@@ -137,7 +134,7 @@ fn call_on(
 /// else what the last turn answered: then it is handed in, and [`camlheap_run`] goes on.
 #[unsafe(no_mangle)]
 pub extern "C" fn camlheap_call(
-    alloc: Global,
+    _alloc: Global,
     handle: &mut CamlheapDomain,
     command: &CamlheapCommand,
     turns: u32,
@@ -145,10 +142,9 @@ pub extern "C" fn camlheap_call(
 ) -> u32
     ensures { CallsAsked handle.old handle.new command.now reply.old reply.new result }
 {
-    let Some(mut run) = handle.take(alloc) else {
+    if !handle.is_full() {
         return NO_DOMAIN;
-    };
-    let told = call_on(&mut run, command, turns, reply);
-    *handle = CamlheapDomain::of(run);
-    told
+    }
+    let run = handle.lend();
+    call_on(run, command, turns, reply)
 }

@@ -80,6 +80,14 @@ impl CamlheapDomain {
         CamlheapDomain::of_loose(Loose::of(run))
     }
 
+    // Whether there is a domain in a handle.
+    #[inline(always)]
+    pub(crate) fn is_full(&mut self) -> bool
+        ensures { (result ≡ self.old.full) × (self.new ≡ self.old) }
+    {
+        self.full
+    }
+
     // Puts another handle in its place, and answers the run that it held.
     #[inline(always)]
     fn replaced(&mut self, by: CamlheapDomain) -> Option<Box<SharedRun>>

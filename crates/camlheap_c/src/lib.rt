@@ -12,6 +12,7 @@ mod crossing;
 mod direct;
 mod driving;
 mod handle;
+mod lending;
 mod loose;
 mod maps;
 mod resting;

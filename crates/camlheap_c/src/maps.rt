@@ -123,26 +123,25 @@ fn make_on(run: &mut SharedRun, dst: u8, reply: &mut CamlheapReply) -> u32
 /// Makes a weak map in a register. It binds nothing. The reply is its block.
 #[unsafe(no_mangle)]
 pub extern "C" fn camlheap_map_make(
-    alloc: Global,
+    _alloc: Global,
     handle: &mut CamlheapDomain,
     dst: u8,
     reply: &mut CamlheapReply,
 ) -> u32
     ensures { MakesFor handle.old handle.new dst reply.old reply.new result }
 {
-    let Some(mut run) = handle.take(alloc) else {
+    if !handle.is_full() {
         return NO_DOMAIN;
-    };
-    let told = make_on(&mut run, dst, reply);
-    *handle = CamlheapDomain::of(run);
-    told
+    }
+    let run = handle.lend();
+    make_on(run, dst, reply)
 }
 
 /// Reads into a register what the map in another binds the key in a third to. The reply is the datum; `none` where the key
 /// isn't bound, and then the register holds nothing; or `type` where the third holds no block.
 #[unsafe(no_mangle)]
 pub extern "C" fn camlheap_map_get(
-    alloc: Global,
+    _alloc: Global,
     handle: &mut CamlheapDomain,
     dst: u8,
     map: u8,
@@ -151,19 +150,18 @@ pub extern "C" fn camlheap_map_get(
 ) -> u32
     ensures { GetsFor handle.old handle.new dst map key reply.old reply.new result }
 {
-    let Some(mut run) = handle.take(alloc) else {
+    if !handle.is_full() {
         return NO_DOMAIN;
-    };
-    let told = get_on(&mut run, dst, map, key, reply);
-    *handle = CamlheapDomain::of(run);
-    told
+    }
+    let run = handle.lend();
+    get_on(run, dst, map, key, reply)
 }
 
 /// Takes the binding of the key in a register out of the map in another. The reply is `ok`; `none` where the key isn't bound;
 /// or `type` where the register holds no block.
 #[unsafe(no_mangle)]
 pub extern "C" fn camlheap_map_take(
-    alloc: Global,
+    _alloc: Global,
     handle: &mut CamlheapDomain,
     map: u8,
     key: u8,
@@ -171,12 +169,11 @@ pub extern "C" fn camlheap_map_take(
 ) -> u32
     ensures { TakesFor handle.old handle.new map key reply.old reply.new result }
 {
-    let Some(mut run) = handle.take(alloc) else {
+    if !handle.is_full() {
         return NO_DOMAIN;
-    };
-    let told = take_on(&mut run, map, key, reply);
-    *handle = CamlheapDomain::of(run);
-    told
+    }
+    let run = handle.lend();
+    take_on(run, map, key, reply)
 }
 
 /// Binds, in the map in a register, the key in another to what a third holds. The reply is `ok`; `full` where an allocation was
@@ -185,7 +182,7 @@ pub extern "C" fn camlheap_map_take(
 /// must be left.
 #[unsafe(no_mangle)]
 pub extern "C" fn camlheap_map_put(
-    alloc: Global,
+    _alloc: Global,
     handle: &mut CamlheapDomain,
     map: u8,
     key: u8,
@@ -194,10 +191,9 @@ pub extern "C" fn camlheap_map_put(
 ) -> u32
     ensures { PutsFor handle.old handle.new map key item reply.old reply.new result }
 {
-    let Some(mut run) = handle.take(alloc) else {
+    if !handle.is_full() {
         return NO_DOMAIN;
-    };
-    let told = put_on(&mut run, map, key, item, reply);
-    *handle = CamlheapDomain::of(run);
-    told
+    }
+    let run = handle.lend();
+    put_on(run, map, key, item, reply)
 }

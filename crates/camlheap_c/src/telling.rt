@@ -13,7 +13,7 @@ use std::alloc::Global;
 /// The reply to the command that was handed in last, once it is made, and else `AGAIN`.
 #[unsafe(no_mangle)]
 pub extern "C" fn camlheap_answer(
-    alloc: Global,
+    _alloc: Global,
     handle: &mut CamlheapDomain,
     reply: &mut CamlheapReply,
 ) -> u32
@@ -23,11 +23,11 @@ pub extern "C" fn camlheap_answer(
     ensures tells { handle.old.full ≡ true → Tells handle.old.value reply.old reply.new result }
     ensures unread { handle.old.full ≡ false → reply.new ≡ reply.old }
 {
-    let Some(run) = handle.take(alloc) else {
+    if !handle.is_full() {
         return NO_DOMAIN;
-    };
+    }
+    let run = handle.lend();
     let answer = run.answer();
-    *handle = CamlheapDomain::of(run);
     match answer {
         Some(answer) => {
             *reply = reply_of(answer);
@@ -40,18 +40,18 @@ pub extern "C" fn camlheap_answer(
 /// What a register holds, as a reply. `NO_REGISTER` where there is no such register.
 #[unsafe(no_mangle)]
 pub extern "C" fn camlheap_show(
-    alloc: Global,
+    _alloc: Global,
     handle: &mut CamlheapDomain,
     register: u8,
     reply: &mut CamlheapReply,
 ) -> u32
     ensures { ShowsRegister handle.old handle.new register reply.old reply.new result }
 {
-    let Some(mut run) = handle.take(alloc) else {
+    if !handle.is_full() {
         return NO_DOMAIN;
-    };
+    }
+    let run = handle.lend();
     let shown = run.show(register);
-    *handle = CamlheapDomain::of(run);
     match shown {
         Some(answer) => {
             *reply = reply_of(answer);
@@ -64,7 +64,7 @@ pub extern "C" fn camlheap_show(
 /// No command comes any more for a domain: its trace ends in later turns, behind the finalisers that wait. `DONE`, or why
 /// it can't be closed; then nothing has changed.
 #[unsafe(no_mangle)]
-pub extern "C" fn camlheap_close(alloc: Global, handle: &mut CamlheapDomain) -> u32
+pub extern "C" fn camlheap_close(_alloc: Global, handle: &mut CamlheapDomain) -> u32
     ensures kept { handle.new.full ≡ handle.old.full }
     ensures none { (handle.old.full ≡ false) ↔ (result ≡ 16) }
     ensures closed { handle.old.full ≡ true → result ≡ 0 → handle.new.value ≡ closed_of handle.old.value }
@@ -72,11 +72,11 @@ pub extern "C" fn camlheap_close(alloc: Global, handle: &mut CamlheapDomain) -> 
     ensures why { handle.old.full ≡ true → result ≢ 0 → RefusesClose handle.old.value result }
     ensures refused { handle.old.full ≡ true → result ≢ 0 → handle.new.value ≡ handle.old.value }
 {
-    let Some(mut run) = handle.take(alloc) else {
+    if !handle.is_full() {
         return NO_DOMAIN;
-    };
+    }
+    let run = handle.lend();
     let closed = run.close();
-    *handle = CamlheapDomain::of(run);
     match closed {
         Ok(()) => DONE,
         Err(refused) => refusal_code(refused),
@@ -87,7 +87,7 @@ pub extern "C" fn camlheap_close(alloc: Global, handle: &mut CamlheapDomain) -> 
 /// them, counted from 0. `NO_MORE` where no more have run.
 #[unsafe(no_mangle)]
 pub extern "C" fn camlheap_ran(
-    alloc: Global,
+    _alloc: Global,
     handle: &mut CamlheapDomain,
     place: usize,
     reply: &mut CamlheapReply,
@@ -98,11 +98,11 @@ pub extern "C" fn camlheap_ran(
     ensures tells { handle.old.full ≡ true → TellsRan handle.old.value place reply.old reply.new result }
     ensures unread { handle.old.full ≡ false → reply.new ≡ reply.old }
 {
-    let Some(run) = handle.take(alloc) else {
+    if !handle.is_full() {
         return NO_DOMAIN;
-    };
+    }
+    let run = handle.lend();
     let ran = run.ran().get(place).copied();
-    *handle = CamlheapDomain::of(run);
     match ran {
         Some(ran) => {
             *reply = reply_of(ran);
@@ -115,7 +115,7 @@ pub extern "C" fn camlheap_ran(
 /// What a domain counts. It costs no look at the heap.
 #[unsafe(no_mangle)]
 pub extern "C" fn camlheap_stats(
-    alloc: Global,
+    _alloc: Global,
     handle: &mut CamlheapDomain,
     stats: &mut CamlheapStats,
 ) -> u32
@@ -126,10 +126,10 @@ pub extern "C" fn camlheap_stats(
     ensures stats { handle.old.full ≡ true → stats.new ≡ stats_form (stats_of handle.old.value.run.token.view.own) }
     ensures unread { handle.old.full ≡ false → stats.new ≡ stats.old }
 {
-    let Some(run) = handle.take(alloc) else {
+    if !handle.is_full() {
         return NO_DOMAIN;
-    };
+    }
+    let run = handle.lend();
     *stats = stats_as_c(run.stats());
-    *handle = CamlheapDomain::of(run);
     DONE
 }
