@@ -28,6 +28,14 @@ extern "C" {
 /* A domain, or none: memory of zeros is none. Only these calls look into it. */
 typedef struct { void *at; bool full; } camlheap_domain;
 
+/* Each call writes to its handle. So handles of several threads that lie within 64 bytes of one another slow each other down, to a
+ * quarter of the speed: a thread moves its handle, which camlheap_start has filled, to memory of its own. The other holds none then. */
+static inline void camlheap_move(camlheap_domain *to, camlheap_domain *from) {
+  *to = *from;
+  from->at = NULL;
+  from->full = false;
+}
+
 /* A bed, in which a domain rests, or none: memory of zeros is none. Only these calls look into it. */
 typedef struct { void *at; bool full; } camlheap_bed;
 
@@ -198,8 +206,8 @@ uint32_t camlheap_why(camlheap_domain *domain, uint32_t maker, uint32_t serial, 
 
 /* Weak maps from blocks to values: a map keeps neither its keys nor, for a key that nothing else leads to, its datum. It is a
  * block, whose register the calls are given, and it may be shared by domains that use it by these calls. Each call is several
- * commands of the domain. Registers are below 8; registers 8 to 11 are used between, and emptied as far as that is possible at
- * once.
+ * commands of the domain. Registers are below 8; registers 8 to 11 are used between, and those that were used are emptied as far
+ * as that is possible at once.
  *
  * DONE and the reply; NO_DOMAIN, CLOSED, BUSY, NO_REGISTER for one that isn't below 8, or NO_LABEL, and then nothing has
  * changed; or AGAIN where a pause is wanted or must come first, or others won a field too often: then no binding has changed,

@@ -93,8 +93,16 @@ pub fn clear<M: Direct>(m: &mut M)
     let _eleven = step(m, Command::Forget { dst: 11 });
 }
 
-/// Makes the last command of a call, which reads into a register or empties it, where it isn't put off. Registers 8 to 11 are
-/// emptied then, as far as that is possible at once.
+/// Empties the registers that a look-up uses between, as far as that is possible at once.
+pub fn clear_read<M: Direct>(m: &mut M)
+    ensures looks { Looks M.sizes M.domain M.heap M.front M.labels_left M.ephes_room m.old m.new }
+{
+    let _eight = step(m, Command::Forget { dst: 8 });
+    let _nine = step(m, Command::Forget { dst: 9 });
+}
+
+/// Makes the last command of a look-up, which reads into a register or empties it, where it isn't put off. Registers 8 and 9
+/// are emptied then, as far as that is possible at once.
 #[inline(always)]
 pub fn finish<M: Direct>(m: &mut M, c: Command) -> Option<Reply>
     requires fits { IsMapCommand c }
@@ -106,7 +114,7 @@ pub fn finish<M: Direct>(m: &mut M, c: Command) -> Option<Reply>
     ensures ends { IfSome result (EndsBy (M.sizes m.old) (M.domain m.old) (M.front m.old) (M.front m.new) c) }
 {
     let reply = m.perform(c)?;
-    clear(m);
+    clear_read(m);
     Some(reply)
 }
 
