@@ -48,12 +48,22 @@ impl Model for SharedRun {
 }
 
 impl SharedRun {
-    // A run with a share of its heap.
-    pub(crate) fn of(heap: Arc<Heap>, run: DomainRun) -> SharedRun
+    /// A run with a share of its heap.
+    pub fn of(heap: Arc<Heap>, run: DomainRun) -> SharedRun
         requires here { IsIn run.token heap.value }
         ensures { result ≡ record { heap = heap.value; run = run } }
     {
         SharedRun { heap, run }
+    }
+
+    /// The share of the heap, and the run.
+    pub fn into_parts(self) -> (Arc<Heap>, DomainRun)
+        ensures heap { result.0.value ≡ self.heap }
+        ensures run { result.1 ≡ self.run }
+        ensures here { IsIn self.run.token self.heap }
+    {
+        let SharedRun { heap, run } = self;
+        (heap, run)
     }
 
     // Why no command is taken, or not this one.

@@ -1,0 +1,6 @@
+//! What one domain's calls have made so far, as whoever drives it was told, and how the history has it.
+#![tactic(auto)]
+
+mod laws;
+
+pub use laws::{commands_add, finalisers_add, ledgers_follow, ledgers_stand, turns_add};
