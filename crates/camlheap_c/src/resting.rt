@@ -47,7 +47,7 @@ pub extern "C" fn camlheap_first_bed(alloc: Global, bed: &mut CamlheapBed) -> u3
     let Ok(boxed) = Box::new(alloc, made) else {
         return MEMORY;
     };
-    *bed = CamlheapBed::of(boxed);
+    bed.put(boxed);
     DONE
 }
 
@@ -76,7 +76,7 @@ pub extern "C" fn camlheap_another_bed(
             let Ok(boxed) = Box::new(alloc, made) else {
                 return MEMORY;
             };
-            *bed = CamlheapBed::of(boxed);
+            bed.put(boxed);
             DONE
         }
         Err(why) => no_bed_code(why),
