@@ -1,5 +1,6 @@
 //! Commands and turns, as C calls them.
 ghost use Rattle.std.specs.Prelude.{◌≡◌, ◌≢◌, ◌↔◌, ◌<◌, ◌≤◌, true, false};
+ghost use Rattle.run_turns.specs.Runs.{GoesOn};
 ghost use Rattle.camlheap_c.specs.Exported.{Calls, CallsAsked, RefusesAs, Submits, TakesTurn, TakesTurns};
 ghost use Rattle.camlheap_c.specs.Forms.{command_as};
 
@@ -54,6 +55,7 @@ pub extern "C" fn camlheap_turn(alloc: Global, handle: &mut CamlheapDomain) -> u
     ensures none { (handle.old.full ≡ false) ↔ (result ≡ 16) }
     ensures heap { handle.old.full ≡ true → handle.new.value.heap ≡ handle.old.value.heap }
     ensures stretch { handle.old.full ≡ true → TakesTurn handle.old.value handle.new.value }
+    ensures goes_on { handle.old.full ≡ true → GoesOn handle.old.value.run handle.new.value.run }
     ensures ended { handle.old.full ≡ true → result ≡ 4 → handle.new.value.run.ended ≡ true }
 {
     let Some(mut run) = handle.take(alloc) else {
