@@ -6,7 +6,8 @@ use Rattle.heap_rule.specs.declared.config.Config.{Config}
 use Rattle.heap_rule.specs.declared.view.DomainView.{DomainView}
 use Rattle.heap_rule.specs.Limits.{first_outside, sizes_in}
 use Rattle.heap_rule.specs.Token.{SharedHeap}
-use Rattle.run_turns.specs.Runs.{HasLooked, IsUnanswered, MaySubmit, Stretches, answer_of}
+use Rattle.run_turns.specs.declared.supply.Supply.TheVariants.{Open}
+use Rattle.run_turns.specs.Runs.{HasLooked, IsUnanswered, MaySubmit, RunView, Stretches, answer_of}
 use Rattle.run_turns.specs.Singly.Driving.{Answered, Awaits}
 use Rattle.run_turns.specs.Singly.Opening.{opened_runs}
 use Rattle.run_seats.specs.declared.shared.shared.Refused.{Refused}
@@ -40,6 +41,10 @@ pub record GoesOn (start : DomainView) (c : model.Command) (old new : SharedView
 -- turns were taken: whichever command the domain had to make, by what the call answers it is made or waits still
 abbrev pub TakesTurns : SharedView → SharedView → CamlheapReply → CamlheapReply → ℕ → Type 0
 TakesTurns old new before read told = (start : DomainView) (c : model.Command) → Awaits old.heap start c old.run → GoesOn start c old new before read told
+
+-- the domain's trace has ended, and it was closed before
+abbrev pub HasEnded : RunView → Type 0
+HasEnded r = (r.ended ≡ true) × (r.supply ≢ Open)
 
 -- one turn was taken: the run went on by a stretch of its own steps
 abbrev pub TakesTurn : SharedView → SharedView → Type 0
@@ -120,6 +125,7 @@ pub record CallsAsked (old new : CamlheapDomain) (c : CamlheapCommand) (before r
   pub why : old.full ≡ true → 17 ≤ told → RefusesAs old.value (command_as c) told
   pub refused : old.full ≡ true → 17 ≤ told → (new.value ≡ old.value) × (read ≡ before)
   pub few : old.full ≡ true → told < 17 → told < 5
+  pub lasts : old.full ≡ true → told ≢ 4
   pub unread : old.full ≡ false → read ≡ before
 
 -- what a look at a register leaves: where there is such a register C reads what it holds, and the domain has looked; else nothing has changed

@@ -1,6 +1,6 @@
 -- What the exports on beds leave.
 use Rattle.std.specs.Prelude.{◌≡◌, ℕ, ◌+◌, ◌<◌, true, false, Some, None}
-use Rattle.run_seats.specs.Beds.Bedding.{BedView, plain_bed}
+use Rattle.run_seats.specs.Beds.Bedding.{BedView, MakesNone, plain_bed}
 use Rattle.run_seats.specs.declared.beds.bed.NoBed.{NoBed}
 use Rattle.run_seats.specs.declared.beds.bed.NoBed.TheVariants.{NotFirst, Full, Memory}
 use Rattle.run_seats.specs.declared.shared.bed.NotRested.{NotRested}
@@ -62,3 +62,7 @@ pub record MakesBed (first after : CamlheapBed) (bed : CamlheapBed) : Type 0 whe
   pub full : bed.full ≡ true
   pub plain : bed.value ≡ plain_bed
   pub more : after.value ≡ record first.value { beds = first.value.beds + 1 }
+
+-- why none was made, as a number
+abbrev pub NoneMade : BedView SharedView → ℕ → Type 0
+NoneMade b told = (why : NoBed) × ((told ≡ no_bed_form why) × MakesNone b why)

@@ -77,16 +77,32 @@ impl CamlheapBed {
         CamlheapBed::of_loose(Loose::of(bed))
     }
 
+    // Puts another handle in its place, and answers the bed that it held.
+    fn replaced(&mut self, by: CamlheapBed) -> Option<Box<RunBed>>
+        ensures some { IfSome result (λ b. (self.old.full ≡ true) × (b.value ≡ self.old.value)) }
+        ensures none { result ≡ None → self.old.full ≡ false }
+        ensures left { self.new ≡ by }
+    {
+        match std::mem::replace(self, by).into_loose() {
+            Some(loose) => Some(loose.into_box()),
+            None => None,
+        }
+    }
+
+    // Puts a bed into a handle. What that held before is freed.
+    pub(crate) fn put(&mut self, bed: Box<RunBed>)
+        ensures { (self.new.full ≡ true) × (self.new.value ≡ bed.value) }
+    {
+        let _held = self.replaced(CamlheapBed::of(bed));
+    }
+
     // Takes the bed out of a handle.
     pub(crate) fn take(&mut self, alloc: Global) -> Option<Box<RunBed>>
         ensures some { IfSome result (λ b. (self.old.full ≡ true) × (b.value ≡ self.old.value)) }
         ensures none { result ≡ None → self.old.full ≡ false }
         ensures left { self.new.full ≡ false }
     {
-        match std::mem::replace(self, CamlheapBed::none(alloc)).into_loose() {
-            Some(loose) => Some(loose.into_box()),
-            None => None,
-        }
+        self.replaced(CamlheapBed::none(alloc))
     }
 }
 

@@ -1,6 +1,9 @@
 //! Commands and turns, as C calls them.
 ghost use Rattle.std.specs.Prelude.{◌≡◌, ◌≢◌, ◌↔◌, ◌<◌, ◌≤◌, true, false};
-ghost use Rattle.camlheap_c.specs.Exported.{Calls, CallsAsked, RefusesAs, Submits, TakesTurn, TakesTurns};
+ghost use Rattle.run_turns.specs.Runs.{GoesOn};
+ghost use Rattle.run_seats.specs.Shared.Idling.{StaysAlong};
+ghost use Rattle.run_seats.specs.Shared.Sharing.{MayClose};
+ghost use Rattle.camlheap_c.specs.Exported.{Calls, CallsAsked, HasEnded, RefusesAs, Submits, TakesTurn, TakesTurns};
 ghost use Rattle.camlheap_c.specs.Forms.{command_as};
 
 use crate::codes::{AGAIN, DONE, NO_DOMAIN, UNFIT, refusal_code, turn_code};
@@ -53,6 +56,7 @@ pub extern "C" fn camlheap_turn(_alloc: Global, handle: &mut CamlheapDomain) -> 
     ensures none { (handle.old.full ≡ false) ↔ (result ≡ 16) }
     ensures heap { handle.old.full ≡ true → handle.new.value.heap ≡ handle.old.value.heap }
     ensures stretch { handle.old.full ≡ true → TakesTurn handle.old.value handle.new.value }
+    ensures goes_on { handle.old.full ≡ true → GoesOn handle.old.value.run handle.new.value.run }
     ensures ended { handle.old.full ≡ true → result ≡ 4 → handle.new.value.run.ended ≡ true }
 {
     if !handle.is_full() {
@@ -65,6 +69,10 @@ pub extern "C" fn camlheap_turn(_alloc: Global, handle: &mut CamlheapDomain) -> 
 // Turns of a domain until its command is made, or it can't go on by itself.
 fn turns_of(run: &mut SharedRun, turns: u32, reply: &mut CamlheapReply) -> u32
     ensures goes_on { TakesTurns run.old run.new reply.old reply.new result }
+    ensures heap { run.new.heap ≡ run.old.heap }
+    ensures further { GoesOn run.old.run run.new.run }
+    ensures idle { MayClose run.old → StaysAlong run.old run.new }
+    ensures ended { result ≡ 4 → HasEnded run.new.run }
     ensures told { result < 5 }
 {
     'turns: for _ in 0..turns {
@@ -93,6 +101,10 @@ pub extern "C" fn camlheap_run(
     ensures kept { handle.new.full ≡ handle.old.full }
     ensures none { (handle.old.full ≡ false) ↔ (result ≡ 16) }
     ensures goes_on { handle.old.full ≡ true → TakesTurns handle.old.value handle.new.value reply.old reply.new result }
+    ensures heap { handle.old.full ≡ true → handle.new.value.heap ≡ handle.old.value.heap }
+    ensures further { handle.old.full ≡ true → GoesOn handle.old.value.run handle.new.value.run }
+    ensures idle { handle.old.full ≡ true → MayClose handle.old.value → StaysAlong handle.old.value handle.new.value }
+    ensures ended { handle.old.full ≡ true → result ≡ 4 → HasEnded handle.new.value.run }
     ensures told { handle.old.full ≡ true → result < 5 }
     ensures unread { handle.old.full ≡ false → reply.new ≡ reply.old }
 {
@@ -115,6 +127,7 @@ fn call_on(
     ensures refused { 17 ≤ result → (run.new ≡ run.old) × (reply.new ≡ reply.old) }
     ensures told { result ≢ 16 }
     ensures few { result < 17 → result < 5 }
+    ensures lasts { result ≢ 4 }
 {
     let Some(command) = command_of(command) else {
         return UNFIT;

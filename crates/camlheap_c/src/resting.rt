@@ -1,7 +1,8 @@
 //! Domains that rest, as C calls them: a thread that has other work puts its domain into a bed, and whoever waits in a
 //! pause turns it there. Beds of one room know of each other, and a domain of any heap may rest in any of them.
-ghost use Rattle.std.specs.Prelude.{◌≡◌, ◌≢◌, ◌↔◌, ◌⊎◌, ◌<◌, false, true, None};
-ghost use Rattle.camlheap_c.specs.Resting.{AreFull, HoldsSame, KeptOut, MakesBed, Rests, Resumes, first_bed, no_bed_form, unrested_form};
+ghost use Rattle.std.specs.Prelude.{◌≡◌, ◌≢◌, ◌↔◌, ◌⊎◌, ◌+◌, ◌<◌, IfErr, IfOk, false, true, None};
+ghost use Rattle.run_seats.specs.Beds.Bedding.{MakesNone, plain_bed};
+ghost use Rattle.camlheap_c.specs.Resting.{AreFull, HoldsSame, KeptOut, MakesBed, NoneMade, Rests, Resumes, first_bed, no_bed_form, unrested_form};
 
 use crate::bed::CamlheapBed;
 use crate::codes::{
@@ -47,8 +48,28 @@ pub extern "C" fn camlheap_first_bed(alloc: Global, bed: &mut CamlheapBed) -> u3
     let Ok(boxed) = Box::new(alloc, made) else {
         return MEMORY;
     };
-    *bed = CamlheapBed::of(boxed);
+    bed.put(boxed);
     DONE
+}
+
+// Another bed of a room, in a box. The box is made first, around a bed that goes: a bed that was made has used up a place of
+// its room.
+fn another_boxed(alloc: Global, first: &mut RunBed) -> Result<Box<RunBed>, NoBed>
+    ensures made { IfOk result (λ b. (b.value ≡ plain_bed) × (first.new ≡ record first.old { beds = first.old.beds + 1 })) }
+    ensures may { IfOk result (λ _. (first.old.makes ≡ true) × (first.old.beds < 64)) }
+    ensures why { IfErr result (MakesNone first.old) }
+    ensures same { IfErr result (λ _. first.new ≡ first.old) }
+{
+    first.may_make()?;
+    let Ok(own) = RunBed::make(alloc) else {
+        return Err(NoBed::Memory);
+    };
+    let Ok(mut boxed) = Box::new(alloc, own) else {
+        return Err(NoBed::Memory);
+    };
+    let made = first.another()?;
+    let _own = Box::replace(&mut boxed, made);
+    Ok(boxed)
 }
 
 /// Another bed in the room of the first, which [`camlheap_first_bed`] made. `DONE`; `NO_BED`; `UNFIT` where that isn't the
@@ -64,19 +85,18 @@ pub extern "C" fn camlheap_another_bed(
     ensures made { first.old.full ≡ true → result ≡ 0 → MakesBed first.old first.new bed.new }
     ensures not_first { first.old.full ≡ true → (result ≡ 19) ↔ (first.old.value.makes ≡ false) }
     ensures same { result ≢ 0 → bed.new ≡ bed.old }
+    ensures same_first { first.old.full ≡ true → result ≢ 0 → first.new.value ≡ first.old.value }
+    ensures why { first.old.full ≡ true → result ≢ 0 → NoneMade first.old.value result }
     ensures rests { first.old.full ≡ true → first.new.value.rests ≡ first.old.value.rests }
 {
     let Some(mut held) = first.take(alloc) else {
         return NO_BED;
     };
-    let made = held.another();
+    let made = another_boxed(alloc, &mut held);
     *first = CamlheapBed::of(held);
     match made {
-        Ok(made) => {
-            let Ok(boxed) = Box::new(alloc, made) else {
-                return MEMORY;
-            };
-            *bed = CamlheapBed::of(boxed);
+        Ok(boxed) => {
+            bed.put(boxed);
             DONE
         }
         Err(why) => no_bed_code(why),

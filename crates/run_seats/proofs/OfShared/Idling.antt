@@ -6,7 +6,7 @@ use Rattle.heap_rule.specs.Limits.{sizes_in}
 use Rattle.heap_rule.specs.Token.{SharedHeap, IsIn}
 use Rattle.run_turns.specs.declared.supply.Supply.{Supply}
 use Rattle.run_turns.specs.declared.supply.Supply.TheVariants.{Section, Open}
-use Rattle.run_turns.specs.Runs.{Appended, RunView, GoesOn, IsRun, Stretches, ran_with, registrations_in}
+use Rattle.run_turns.specs.Runs.{Appended, RunView, GoesOn, IsRun, Stretches, ran_with, registrations_in, said_with}
 use Rattle.run_turns.specs.Runs.Stretches.{ByOthers, ByCommand, ByFinaliser, ByEnd, BySection}
 use Rattle.run_turns.proofs.Handed.{finalised_more, finalised_none, finalised_others}
 use Rattle.run_turns.specs.Singly.Driving.{registered}
@@ -44,6 +44,10 @@ module _ (h : SharedHeap) (old new : RunView) (idle : IsIdleIn h old) (here : Is
     record {
       config = config;
       number = g.number;
+      supply = g.supply;
+      commands = g.commands;
+      next = m.next;
+      replies = m.replies;
       more = [];
       ran = m.ran ∙ sym (append-nil old.ran);
       finalised = finalised_others z d old.token.view.seen.front old.token.view.seen.front new.token.view.seen.front [] (finalised_none z d old.token.view.seen.front) m.front;
@@ -57,6 +61,10 @@ module _ (h : SharedHeap) (old new : RunView) (idle : IsIdleIn h old) (here : Is
     record {
       config = config;
       number = g.number;
+      supply = g.supply;
+      commands = g.commands;
+      next = m.next;
+      replies = m.replies ∙ ap (λ (s : Supply). said_with s old.replies m.reply) idle.more;
       more = m.reply ∷ [];
       ran = m.ran ∙ ap (λ (s : Supply). ran_with s old.ran m.reply) idle.more;
       finalised = finalised_more z d old.token.view.seen.front old.token.view.seen.front new.token.view.seen.front [] m.reply (finalised_none z d old.token.view.seen.front) (subst (λ (k : Config). Appended (sizes_in k) d old.token.view.seen.front new.token.view.seen.front (Ran d) (Replied m.reply)) (sym idle.here.1) m.front);

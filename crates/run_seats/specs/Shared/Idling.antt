@@ -27,10 +27,14 @@ pub record IsIdleIn (h : SharedHeap) (r : RunView) : Type 0 where
 abbrev pub finals_of : RunView → ℕ
 finals_of r = r.token.config.finals - registered r
 
--- it has made no command since. Its front has grown by entries of others and by runs of its finalisers, whose replies it keeps behind those that it had, and it has room for no fewer ephemerons, and for a finaliser more for each that ran
+-- it has made no command since: it has the same commands, place and replies, and takes the next one as it did. Its front has grown by entries of others and by runs of its finalisers, whose replies it keeps behind those that it had, and it has room for no fewer ephemerons, and for a finaliser more for each that ran
 pub record StaysIdle (old new : RunView) : Type 0 where
   pub config : new.token.config ≡ old.token.config
   pub number : new.token.view.own.number ≡ old.token.view.own.number
+  pub supply : new.supply ≡ old.supply
+  pub commands : new.commands ≡ old.commands
+  pub next : new.next ≡ old.next
+  pub replies : new.replies ≡ old.replies
   pub more : List Reply
   pub ran : new.ran ≡ old.ran ++ more
   pub finalised : Finalised (sizes_in old.token.config) old.token.view.own.number old.token.view.seen.front new.token.view.seen.front more
@@ -41,6 +45,10 @@ pub still_idle : (r : RunView) → StaysIdle r r
 still_idle r = record {
   config = refl;
   number = refl;
+  supply = refl;
+  commands = refl;
+  next = refl;
+  replies = refl;
   more = [];
   ran = sym (append-nil r.ran);
   finalised = finalised_none (sizes_in r.token.config) r.token.view.own.number r.token.view.seen.front;
@@ -52,6 +60,10 @@ pub stays_on : (a b c : RunView) → StaysIdle a b → StaysIdle b c → StaysId
 stays_on a b c p q = record {
   config = q.config ∙ p.config;
   number = q.number ∙ p.number;
+  supply = q.supply ∙ p.supply;
+  commands = q.commands ∙ p.commands;
+  next = q.next ∙ p.next;
+  replies = q.replies ∙ p.replies;
   more = p.more ++ q.more;
   ran = q.ran ∙ (ap (λ (rs : List Reply). rs ++ q.more) p.ran ∙ append_assoc a.ran p.more q.more);
   finalised = finalised_on (sizes_in a.token.config) a.token.view.own.number a.token.view.seen.front b.token.view.seen.front c.token.view.seen.front p.more q.more p.finalised

@@ -68,12 +68,10 @@ impl<T: Restful + Drop> Bed<T> {
         })
     }
 
-    /// Another bed of the room of this one, which is its first. There are 64 at most.
-    pub fn another(&mut self) -> Result<Bed<T>, NoBed>
-        ensures made { IfOk result (λ b. (b ≡ plain_bed) × (self.new ≡ record self.old { beds = self.old.beds + 1 })) }
-        ensures may { IfOk result (λ _. (self.old.makes ≡ true) × (self.old.beds < 64)) }
-        ensures why { IfErr result (MakesNone self.old) }
-        ensures same { IfErr result (λ _. self.new ≡ self.old) }
+    /// Whether it may make another, as the first of its room may while there are fewer than 64, and else why not.
+    pub fn may_make(&self) -> Result<(), NoBed>
+        ensures may { IfOk result (λ _. (self.now.makes ≡ true) × (self.now.beds < 64)) }
+        ensures why { IfErr result (MakesNone self.now) }
     {
         if !self.makes {
             return Err(NoBed::NotFirst);
@@ -81,6 +79,17 @@ impl<T: Restful + Drop> Bed<T> {
         if self.next >= MOST_BEDS {
             return Err(NoBed::Full);
         }
+        Ok(())
+    }
+
+    /// Another bed of the room of this one, which is its first. There are 64 at most.
+    pub fn another(&mut self) -> Result<Bed<T>, NoBed>
+        ensures made { IfOk result (λ b. (b ≡ plain_bed) × (self.new ≡ record self.old { beds = self.old.beds + 1 })) }
+        ensures may { IfOk result (λ _. (self.old.makes ≡ true) × (self.old.beds < 64)) }
+        ensures why { IfErr result (MakesNone self.old) }
+        ensures same { IfErr result (λ _. self.new ≡ self.old) }
+    {
+        self.may_make()?;
         let Ok(room) = Arc::try_clone(&self.room) else {
             return Err(NoBed::Memory);
         };

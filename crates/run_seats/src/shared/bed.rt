@@ -46,6 +46,14 @@ impl RunBed {
         })
     }
 
+    /// Whether it may make another, as the first of its room may while there are fewer than 64, and else why not.
+    pub fn may_make(&self) -> Result<(), NoBed>
+        ensures may { IfOk result (λ _. (self.now.makes ≡ true) × (self.now.beds < 64)) }
+        ensures why { IfErr result (MakesNone self.now) }
+    {
+        self.bed.may_make()
+    }
+
     /// Another bed of the room of this one, which is its first. There are 64 at most.
     pub fn another(&mut self) -> Result<RunBed, NoBed>
         ensures made { IfOk result (λ b. (b ≡ plain_bed) × (self.new ≡ record self.old { beds = self.old.beds + 1 })) }

@@ -1,18 +1,20 @@
 //! A domain with a share of its heap.
-ghost use Rattle.std.specs.Prelude.{◌≡◌, ◌↔◌, ◌≤◌, true, None, IfOk, IfErr, IfSome};
+ghost use Rattle.std.specs.Prelude.{◌≡◌, ◌≢◌, ◌↔◌, ◌≤◌, true, None, IfOk, IfErr, IfSome};
 ghost use Rattle.heap_rule.specs.Limits.{sizes_in};
 ghost use Rattle.heap_rule.specs.Token.{IsIn};
+ghost use Rattle.run_turns.specs.declared.supply.Supply.TheVariants.{Open};
 ghost use Rattle.run_turns.specs.Runs.{GoesOn, HasLooked, IsLastReply, IsUnanswered, MaySubmit, Stretches, answer_of};
 ghost use Rattle.run_turns.specs.Singly.Counting.{stats_of};
 ghost use Rattle.run_turns.specs.Singly.Driving.{AnswersAwaited, AwaitAnswers};
 ghost use Rattle.run_seats.specs.Shared.Idling.{StaysAlong};
 ghost use Rattle.run_seats.specs.Shared.Sharing.{IsRefusedBy, IsUnclosedBy, MayClose, closed_of, shown_by, with_command};
 
+use crate::shared::awaiting::await_turn;
 use crate::shared::idle::attend;
 use heap_rule::Heap;
 use model_core::command::Command;
 use model_core::reply::Reply;
-use run_turns::singly::{Came, Refusal, Stats, await_turn, begin, counts, refuses, turn_below};
+use run_turns::singly::{Came, Refusal, Stats, begin, counts, refuses, turn_below};
 use run_turns::{DomainRun, Supply, show};
 use std::marker::Model;
 use std::sync::Arc;
@@ -130,9 +132,13 @@ impl SharedRun {
     }
 
     /// One turn of a domain that has a command to make. Answers how far it came, and the reply, once the command is made.
+    /// A domain that has none makes none.
     pub fn await_turn(&mut self) -> (Came, Option<Reply>)
         ensures heap { self.new.heap ≡ self.old.heap }
+        ensures goes_on { GoesOn self.old.run self.new.run }
         ensures answers { AnswersAwaited self.old.heap self.old.run self.new.run result.1 }
+        ensures idle { MayClose self.old → StaysAlong self.old self.new }
+        ensures ended { result.0 ≡ Came.Ended → (self.new.run.ended ≡ true) × (self.new.run.supply ≢ Open) }
     {
         await_turn(&self.heap, &mut self.run)
     }

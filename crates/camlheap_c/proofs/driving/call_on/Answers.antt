@@ -20,3 +20,10 @@ returns-in-Ok-None-clause-called c below =
 
 pub returns-in-Ok-None-clause-refused : goal.returns-in-Ok-None-clause-refused
 returns-in-Ok-None-clause-refused c above = let few = c.turns_of.ensures.told in absurd (omega (arith, above, few))
+
+pub returns-in-Ok-None-clause-lasts : goal.returns-in-Ok-None-clause-lasts
+returns-in-Ok-None-clause-lasts c is =
+    let start = c.args.run.now.run.token.view in
+    let e = c.in-Ok-None.ensures in
+    let waits : Awaits c.args.run.now.heap start c.in-Some.command c.begin.new.self.run = subst (λ (o : Option Reply). AwaitAnswers c.args.run.now.heap start c.in-Some.command c.begin.new.self.run o) c.in-Ok-None.field-0-is e.answers in
+    (c.turns_of.ensures.ended is).1 (c.turns_of.ensures.further.supply ∙ waits.more)

@@ -1,10 +1,12 @@
-use Rattle.std.proofs.Common.{◌≡◌, ◌<◌, ◌∙◌, ℕ, Option, Some, None, sym, subst, arith}
+use Rattle.std.proofs.Common.{◌≡◌, ◌<◌, ◌∙◌, ℕ, Option, Some, None, refl, sym, subst, arith}
 use Rattle.model_core.specs.declared.reply.Reply.{Reply}
 use Rattle.heap_rule.specs.Token.{SharedHeap}
 use Rattle.run_turns.specs.Singly.Driving.{AwaitAnswers, Awaits}
 use Rattle.camlheap_c.specs.declared.crossing.CamlheapReply.{CamlheapReply}
 use Rattle.camlheap_c.specs.Exported.{GoesOn}
-use Rattle.camlheap_c.proofs.Waiting.{came_below, made, not_done, not_made}
+use Rattle.run_turns.specs.Driving.{goes_further, goes_nowhere}
+use Rattle.run_seats.specs.Shared.Idling.{still_along, stays_along}
+use Rattle.camlheap_c.proofs.Waiting.{came_below, ends, made, may_along, not_done, not_made}
 use Rattle.camlheap_c.proofs.driving.turns_of.Goals as goal
 
 pub returns-in-Some-clause-goes_on : goal.returns-in-Some-clause-goes_on
@@ -26,10 +28,30 @@ returns-then-told-ne-AGAIN-clause-goes_on c start command waits =
     subst (λ (r : CamlheapReply). GoesOn start command c.args.run.now c.await_turn-came.new.self c.args.reply.now r c.turn_code-told.result) (sym c.turns.invariant.unread)
     (not_made start command c.args.run.now c.await_turn-came.new.self c.args.reply.now c.turn_code-told.result other heap (subst (λ (h : SharedHeap). Awaits h start command c.await_turn-came.new.self.run) c.turns.invariant.heap still))
 
+pub turns-init : goal.turns-init
+turns-init c = record { heap = refl; unread = refl; further = goes_nowhere _; idle = λ may. still_along _; awaits = λ start command waits. waits }
+
+pub returns-in-Some-clause-further : goal.returns-in-Some-clause-further
+returns-in-Some-clause-further c = goes_further _ _ _ c.turns.invariant.further c.await_turn-came.ensures.goes_on
+
+pub returns-in-Some-clause-idle : goal.returns-in-Some-clause-idle
+returns-in-Some-clause-idle c may = let so = c.turns.invariant.idle may in stays_along _ _ _ so (c.await_turn-came.ensures.idle (may_along _ _ so may))
+
+pub returns-then-told-ne-AGAIN-clause-further : goal.returns-then-told-ne-AGAIN-clause-further
+returns-then-told-ne-AGAIN-clause-further c = goes_further _ _ _ c.turns.invariant.further c.await_turn-came.ensures.goes_on
+
+pub returns-then-told-ne-AGAIN-clause-idle : goal.returns-then-told-ne-AGAIN-clause-idle
+returns-then-told-ne-AGAIN-clause-idle c may = let so = c.turns.invariant.idle may in stays_along _ _ _ so (c.await_turn-came.ensures.idle (may_along _ _ so may))
+
+pub returns-then-told-ne-AGAIN-clause-ended : goal.returns-then-told-ne-AGAIN-clause-ended
+returns-then-told-ne-AGAIN-clause-ended c is = c.await_turn-came.ensures.ended (ends c.await_turn-came.result.0 (sym c.turn_code-told.ensures ∙ is))
+
 pub turns-preserved : goal.turns-preserved
 turns-preserved c = record {
   heap = c.await_turn-came.ensures.heap ∙ c.turns.invariant.heap;
   unread = c.turns.invariant.unread;
+  further = goes_further _ _ _ c.turns.invariant.further c.await_turn-came.ensures.goes_on;
+  idle = λ may. let so = c.turns.invariant.idle may in stays_along _ _ _ so (c.await_turn-came.ensures.idle (may_along _ _ so may));
   awaits = λ start command waits.
       let here = c.turns.invariant.awaits start command waits in
       let got = c.await_turn-came.ensures.answers start command here in
