@@ -24,10 +24,10 @@ use Rattle.run_turns.specs.Runs.{IsAnswered as RunIsAnswered}
 use Rattle.run_turns.proofs.LeavingLemmas.{passes_leaves}
 use Rattle.run_turns.proofs.PauseLemmas.{even_next, not_both, odd_next}
 use Rattle.run_alone.specs.Lone.{AsksOnce, IsBehindAnswer, IsLone, IsPausing, IsServed, PassesAlone, Wants, decides}
-use Rattle.run_alone.specs.Paces.{last_of}
+use Rattle.run_alone.specs.Paces.{last_of, steps_left}
 use Rattle.run_alone.proofs.Keeping.{asks_none, wants_none}
 use Rattle.run_alone.proofs.Telling.{tells_on, tells_passed, tells_seen}
-use Rattle.run_alone.proofs.Paces.{no_later, went}
+use Rattle.run_alone.proofs.Paces.{nearer, no_later, went}
 
 -- a pause with a complete collection ends behind the answer alone
 on_reset : (armed unswept : Bool) → (if armed then Mark else (if unswept then Sweep else Roots)) ≡ Run → Reset ≡ Answer
@@ -248,3 +248,7 @@ module _ (h : SharedHeap) (complete : Bool) (start r s : RunView) (i : IsPausing
         owes = λ next. (v.stays (next ∙ sym same)).1 ∙ i.owes same;
         served = λ full next at. v.served full (next ∙ sym same) at;
       }
+
+  -- and one step fewer is left of it
+  pub comes_nearer : steps_left h.config s < steps_left h.config r
+  comes_nearer = nearer h who q s p.met first gone p.passes
