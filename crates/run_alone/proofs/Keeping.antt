@@ -29,7 +29,7 @@ use Rattle.run_turns.specs.Runs.{RunView, CalmAnswers, CalmDid, IsRun, MarksBesi
 use Rattle.run_turns.specs.Runs.CalmDid.{Finalises, Wishes, Refuses, Tries, Works, Ends, Sees, Makes, Tells, WishesToTell}
 use Rattle.run_turns.specs.Tries.{NeedsPause}
 use Rattle.step_finalisers.specs.Registering.{count_of}
-use Rattle.run_alone.specs.Lone.{AsksOnce, IsLone, OnlyFinalises, StandsAs, Tells, TriesOn, Wants}
+use Rattle.run_alone.specs.Lone.{AsksOnce, IsLone, OnlyFinalises, StandsAs, Tells as Telling, TriesOn, Wants}
 use Rattle.run_alone.proofs.Telling.{tells_calm, tells_on}
 
 inside : {A : Type 0} (xs : List A) (i : ℕ) (x : A) → slice_get xs i ≡ Some x → i < length xs
@@ -245,7 +245,7 @@ module _ (h : SharedHeap) (start r s : RunView) (a : Turned) (l : IsLone h r) (t
   step = came h r s l.is l.more t.left some a says
 
   -- what was told of the command so far
-  pub told_on : Tells h start r → Tells h start s
+  pub told_on : Telling h start r → Telling h start s
   told_on told = tells_on h start r s t.commands t.next told (tells_calm h r s a l.here here l.is l.more says)
 
   pub stands_on : s.next ≡ start.next → (Wants s → ⊥) → StandsAs start s × (count_of s.token.view.own.finalisers < count_of r.token.view.own.finalisers)
@@ -257,7 +257,7 @@ module _ (h : SharedHeap) (start r s : RunView) (a : Turned) (l : IsLone h r) (t
     by (Made k) = absurd (let more = k.2 in let was = t.next in omega (arith, more, was, next))
 
   -- and else the tries are over
-  pub tries_on : Tells h start r → IsWithinLimits (sizes_in h.config) → (r.token.view.own.remembered.room + length r.token.view.own.remembered.items ≡ REMEMBERED_ROOM) → ((s.next ≡ start.next) → Wants s) → TriesOn h start s
+  pub tries_on : Telling h start r → IsWithinLimits (sizes_in h.config) → (r.token.view.own.remembered.room + length r.token.view.own.remembered.items ≡ REMEMBERED_ROOM) → ((s.next ≡ start.next) → Wants s) → TriesOn h start s
   tries_on told limits whole over = record {
     lone = lone_calm h r s a l t.left some here is says;
     left = left_of step;
@@ -297,3 +297,7 @@ module _ (h : SharedHeap) (start r s : RunView) (a : Turned) (l : IsLone h r) (t
           (subst (λ (b : Bool). NeedsPause h.config r.token.view.own b c) (served_here served) needs)
       never served other counts same (IsShort before empty k) = true≢false (sym counts ∙ (sym t.collected ∙ before))
       never served other counts same (Made k) = let more = k.2 in let was = t.next in omega (arith, more, was, same)
+
+-- a command is left where one was
+pub some_as : (start r : RunView) → StandsAs start r → start.next < length start.commands → r.next < length r.commands
+some_as start r t some = let next = t.next in let count : length r.commands ≡ length start.commands = ap (λ (cs : List model.Command). length cs) t.commands in omega (arith, next, count, some)

@@ -9,14 +9,14 @@ use Rattle.heap_rule.specs.Ending.{Begins}
 use Rattle.heap_rule.specs.Limits.{sizes_in}
 use Rattle.heap_rule.specs.Token.{SharedHeap, IsIn}
 use Rattle.gc_pause.specs.declared.phases.decider.Decider.{Decider}
-use Rattle.run_turns.specs.declared.passing.LookOutcome.TheVariants.{Arrived, Answered as CameToAnswer, Runs}
 use Rattle.run_turns.specs.declared.supply.Supply.TheVariants.{Open}
 use Rattle.run_turns.specs.declared.turned.Turned.{Turned}
 use Rattle.run_turns.specs.declared.turned.Turned.TheVariants.{Did}
 use Rattle.run_turns.specs.Runs.{RunView, CalmAnswers, GoesOn, IsRun, PassesOn, Stretches, answer_of, first_reply, halted, run_seeing, submitted}
 use Rattle.run_turns.specs.Runs.Stretches.{ByOthers}
+use Rattle.run_turns.specs.Sections.{is_spawned_at}
 use Rattle.run_turns.specs.Singly.Driving.{Answered, AwaitAnswers, Awaits}
-use Rattle.run_turns.proofs.GoingLemmas.{calm_goes, past_goes}
+use Rattle.run_turns.proofs.GoingLemmas.{IsSame, answered_goes, calm_goes, gone_goes, seen_goes as answer_goes}
 use Rattle.run_turns.proofs.Moving.{front_prefix}
 use Rattle.run_turns.proofs.OfSingly.Begun.{handed_in}
 use Rattle.run_turns.proofs.OfSingly.Driven.{awaits_turn}
@@ -66,14 +66,23 @@ tells_halted h r here start command w = awaits_turn h start command r (halted r)
     (record { commands = refl; supply = refl; spawned = refl; number = refl; front = front_prefix _ _ _ (front_whole r.token.view.own.number r.token.view.seen.front); over = λ ended. record { ended = ended; next = refl; replies = refl } })
 
 -- and one that goes on in a pause
-goes_past : (decider : Decider) (h : SharedHeap) (q s : RunView) → IsRun q → PassesOn h decider q s Did → GoesOn q s
-goes_past decider h q s is (inl g) = past_goes decider h q s (Arrived g.kind) g is
-goes_past decider h q s is (inr (inl a)) = past_goes decider h q s (CameToAnswer 0 (Some a.reply)) a is
-goes_past decider h q s is (inr (inr (inl a))) = past_goes decider h q s (CameToAnswer 0 None) a is
-goes_past decider h q s is (inr (inr (inr a))) = past_goes decider h q s Runs a is
+same_past : (decider : Decider) (h : SharedHeap) (q s : RunView) → PassesOn h decider q s Did → IsSame q s
+same_past decider h q s (inl g) = gone_goes decider h q s g
+same_past decider h q s (inr (inl a)) = answered_goes h q s a
+same_past decider h q s (inr (inr (inl a))) = answer_goes h q s a
+same_past decider h q s (inr (inr (inr a))) = record {
+  commands = ap (λ (x : RunView). x.commands) a.run;
+  supply = ap (λ (x : RunView). x.supply) a.run;
+  spawned = ap (λ (x : RunView). is_spawned_at x.place) a.run;
+  number = ap (λ (x : DomainView). x.own.number) a.passed.view;
+  front = front_prefix _ _ _ a.passed.seen;
+}
 
-pub tells_passed : (decider : Decider) (h : SharedHeap) (q s : RunView) → IsIn q.token h → IsIn s.token h → IsRun q → PassesOn h decider q s Did → Tells h q s
-tells_passed decider h q s was here is p start command w = awaits_turn h start command q s w here (passed_stretches decider h q s Did was p) (goes_past decider h q s is p)
+goes_past : (decider : Decider) (h : SharedHeap) (q s : RunView) → IsRun q → q.supply ≡ Open → PassesOn h decider q s Did → GoesOn q s
+goes_past decider h q s is more p = let g = same_past decider h q s p in record { commands = g.commands; supply = g.supply; spawned = g.spawned; number = g.number; front = g.front; over = λ ended. absurd (is.shut ended more) }
+
+pub tells_passed : (decider : Decider) (h : SharedHeap) (q s : RunView) → IsIn q.token h → IsIn s.token h → IsRun q → q.supply ≡ Open → PassesOn h decider q s Did → Tells h q s
+tells_passed decider h q s was here is more p start command w = awaits_turn h start command q s w here (passed_stretches decider h q s Did was p) (goes_past decider h q s is more p)
 
 -- a command that was just handed in
 pub tells_submitted : (h : SharedHeap) (r : RunView) (c : model.Command) → IsIn r.token h → r.supply ≡ Open → Awaits h r.token.view c (submitted r c)

@@ -240,7 +240,7 @@ module _ (h : SharedHeap) (complete : Bool) (start r s : RunView) (i : IsPausing
       let v = kept in record {
         lone = record { here = here; is = is; alone = i.lone.alone; more = v.supply ∙ i.lone.more; asks = v.once; unqueued = λ none w. absurd (v.wants none w) };
         commands = v.commands ∙ i.commands;
-        tells = tells_on h start r s i.commands same i.tells (tells_on h r q s refl refl (tells_seen h r p.history i.lone.here p.begins) (tells_passed who h q s i.lone.here here p.met p.passes));
+        tells = tells_on h start r s i.commands same i.tells (tells_on h r q s refl refl (tells_seen h r p.history i.lone.here p.begins) (tells_passed who h q s i.lone.here here p.met i.lone.more p.passes));
         within = let less = no_later h who q s p.met first p.passes in let before = i.within in omega (arith, less, before);
         more = let before = i.more in ⊎_elim (λ (b : (s.left ≡ None) × (y.own.arrivals ≡ x.own.arrivals)). let e = b.1 in omega (arith, before, e)) (λ (g : (s.left ≢ None) × (y.own.arrivals ≡ x.own.arrivals + 1)). let e = g.1 in omega (arith, before, e)) (went h who q s p.passes);
         stays = λ next. (v.stays (next ∙ sym same)).0 ∙ i.stays same;
