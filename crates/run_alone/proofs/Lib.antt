@@ -5,3 +5,5 @@ pub mod Keeping
 pub mod Walking
 pub mod Served
 pub mod Closing
+pub mod Handed
+pub mod Wished

@@ -108,3 +108,12 @@ pub record ServesOn (h : SharedHeap) (complete : Bool) (old new : RunView) : Typ
   pub served : new.next ≡ old.next → served_since new.asked new.token.view.own.arrivals ≡ true
   pub full : complete ≡ true → new.next ≡ old.next → slice_get new.commands new.next ≡ Some FullMajor → ⊥
   pub counts : complete ≡ true → new.next ≡ old.next → new.collected ≡ true
+
+-- the first turn of a command: the domain found a wish that was left over and arrived, or went on
+pub record LooksFirst (h : SharedHeap) (old new : RunView) : Type 0 where
+  pub lone : IsLone h new
+  pub commands : new.commands ≡ old.commands
+  pub tells : Tells h old new
+  pub spends : last_of h.config new ≤ last_of h.config old + most_in_pause
+  pub unasked : new.left ≢ None → new.asked ≡ None
+  pub rests : new.next ≡ old.next → Wants new ⊎ (new.asked ≡ None)

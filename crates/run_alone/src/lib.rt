@@ -3,12 +3,15 @@
 #![tactic(auto)]
 
 mod ending;
+mod handing;
 mod passing;
 mod pausing;
 mod performing;
 mod serving;
 mod trying;
+mod wishing;
 
 pub use ending::end;
-pub use performing::{come_back, perform};
+pub use pausing::come_back;
+pub use performing::perform;
 pub use serving::make;

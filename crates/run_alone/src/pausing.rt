@@ -1,6 +1,6 @@
 //! A pause of a heap's only domain.
-ghost use Rattle.std.specs.Prelude.{◌≡◌, ◌≢◌, ◌<◌, ◌^◌, ◌⊎◌, [], vec_capacity, None};
-ghost use Rattle.run_alone.specs.Lone.{IsLone, IsPausing, decides};
+ghost use Rattle.std.specs.Prelude.{◌≡◌, ◌≢◌, ◌<◌, ◌≤◌, ◌^◌, ◌⊎◌, [], vec_capacity, None};
+ghost use Rattle.run_alone.specs.Lone.{IsLone, IsPausing, Tells, decides};
 ghost use Rattle.run_alone.specs.Paces.{last_of};
 
 use crate::passing::pass_alone;
@@ -48,4 +48,23 @@ pub(crate) fn pause(
         run = pass_alone(heap, run, room, decider);
         run.shows_faithful();
     }
+}
+
+/// Takes a domain that has asked for no pause, and that may have arrived, back to where it runs.
+pub fn come_back(heap: &Heap, run: DomainRun, room: &mut Vec<Domain>) -> DomainRun
+    requires lone { IsLone heap.now run }
+    requires unasked { run.asked ≡ None }
+    requires few { last_of heap.now.config run < 2 ^ 60 }
+    requires empty { room.old.items ≡ [] }
+    requires fits { 1 < vec_capacity room.old }
+    ensures lone { IsLone heap.now result }
+    ensures runs { result.left ≡ None }
+    ensures commands { result.commands ≡ run.commands }
+    ensures next { result.next ≡ run.next }
+    ensures unasked { result.asked ≡ None }
+    ensures tells { Tells heap.now run result }
+    ensures spends { last_of heap.now.config result ≤ last_of heap.now.config run }
+    ensures room { (room.new.items ≡ []) × (vec_capacity room.new ≡ vec_capacity room.old) }
+{
+    pause(heap, run, room, false)
 }

@@ -3,36 +3,19 @@ ghost use Rattle.std.specs.Prelude.{◌≡◌, ◌<◌, ◌≤◌, ◌+◌, ◌*
 ghost use Rattle.heap_rule.specs.Token.{IsIn};
 ghost use Rattle.run_turns.specs.Runs.{MaySubmit};
 ghost use Rattle.run_turns.specs.Singly.Driving.{Answered};
-ghost use Rattle.run_alone.specs.Lone.{IsLone, Tells};
+ghost use Rattle.run_alone.specs.Lone.{IsLone};
 ghost use Rattle.run_alone.specs.Paces.{last_of, most_in_pause};
 
-use crate::pausing::pause;
+use crate::handing::hand_in;
+use crate::pausing::come_back;
 use crate::serving::make;
 use heap_rule::{Domain, Heap};
 use model_core::command::Command;
 use model_core::reply::Reply;
 use run_turns::DomainRun;
 
-/// Takes a domain that has asked for no pause, and that may have arrived, back to where it runs.
-pub fn come_back(heap: &Heap, run: DomainRun, room: &mut Vec<Domain>) -> DomainRun
-    requires lone { IsLone heap.now run }
-    requires unasked { run.asked ≡ None }
-    requires few { last_of heap.now.config run < 2 ^ 60 }
-    requires empty { room.old.items ≡ [] }
-    requires fits { 1 < vec_capacity room.old }
-    ensures lone { IsLone heap.now result }
-    ensures runs { result.left ≡ None }
-    ensures commands { result.commands ≡ run.commands }
-    ensures next { result.next ≡ run.next }
-    ensures tells { Tells heap.now run result }
-    ensures spends { last_of heap.now.config result ≤ last_of heap.now.config run }
-    ensures room { (room.new.items ≡ []) × (vec_capacity room.new ≡ vec_capacity room.old) }
-{
-    pause(heap, run, room, false)
-}
-
 /// Makes a command of an open run whose last command is done. The domain is the heap's only one, and may still arrive as
-/// often as two pauses take at most. This call returns.
+/// often as three pauses take at most. This call returns.
 pub fn perform(
     heap: &Heap,
     run: DomainRun,
@@ -42,17 +25,18 @@ pub fn perform(
     requires here { IsIn run.token heap.now }
     requires alone { heap.now.config.domains ≡ 1 }
     requires may { MaySubmit run command }
-    requires few { last_of heap.now.config run + 2 * most_in_pause < 2 ^ 60 }
+    requires few { last_of heap.now.config run + 3 * most_in_pause < 2 ^ 60 }
     requires empty { room.old.items ≡ [] }
     requires fits { 1 < vec_capacity room.old }
     ensures lone { IsLone heap.now result.0 }
     ensures answered { Answered heap.now run.token.view command result.1 result.0 }
-    ensures spends { last_of heap.now.config result.0 ≤ last_of heap.now.config run + 2 * most_in_pause }
+    ensures spends { last_of heap.now.config result.0 ≤ last_of heap.now.config run + 3 * most_in_pause }
     ensures room { (room.new.items ≡ []) × (vec_capacity room.new ≡ vec_capacity room.old) }
 {
     let mut run = run;
-    run.submit(command);
-    run.shows_faithful();
+    if let Some(reply) = hand_in(heap, &mut run, command) {
+        return (run, reply);
+    }
     let run = come_back(heap, run, room);
     let run = make(heap, run, room);
     match run.answer() {

@@ -3,8 +3,9 @@ ghost use Rattle.std.specs.Prelude.{◌≡◌, ◌≢◌, ◌<◌, ◌≤◌, �
 ghost use Rattle.run_alone.specs.Lone.{IsLone, ServesOn, Tells, Wants};
 ghost use Rattle.run_alone.specs.Paces.{last_of, most_in_pause};
 
-use crate::pausing::pause;
-use crate::trying::try_on;
+use crate::pausing::{come_back, pause};
+use crate::trying::{try_on, wants};
+use crate::wishing::look_first;
 use heap_rule::{Domain, Heap};
 use run_turns::DomainRun;
 
@@ -82,9 +83,9 @@ fn serve_first(heap: &Heap, run: DomainRun, room: &mut Vec<Domain>) -> DomainRun
     serve_last(heap, run, room)
 }
 
-/// Makes the next command of the run of a heap's only domain, which runs. At most two pauses come for it: one, or two for
-/// an allocation that is refused behind the first. All finalisers that wait run before it, and those that the pauses queue.
-pub fn make(heap: &Heap, run: DomainRun, room: &mut Vec<Domain>) -> DomainRun
+// Makes the next command. At most two pauses come for it: one, or two for an allocation that is refused behind the first. All
+// finalisers that wait run before it, and those that the pauses queue.
+fn make_on(heap: &Heap, run: DomainRun, room: &mut Vec<Domain>) -> DomainRun
     requires lone { IsLone heap.now run }
     requires runs { run.left ≡ None }
     requires some { run.next < length run.commands }
@@ -105,4 +106,34 @@ pub fn make(heap: &Heap, run: DomainRun, room: &mut Vec<Domain>) -> DomainRun
         return run;
     }
     serve_first(heap, run, room)
+}
+
+/// The same of a domain that has asked for no pause. A wish that was left over is served first, as that for the end of a
+/// cycle.
+pub fn make(heap: &Heap, run: DomainRun, room: &mut Vec<Domain>) -> DomainRun
+    requires lone { IsLone heap.now run }
+    requires runs { run.left ≡ None }
+    requires unasked { run.asked ≡ None }
+    requires some { run.next < length run.commands }
+    requires few { last_of heap.now.config run + 3 * most_in_pause < 2 ^ 60 }
+    requires empty { room.old.items ≡ [] }
+    requires fits { 1 < vec_capacity room.old }
+    ensures lone { IsLone heap.now result }
+    ensures commands { result.commands ≡ run.commands }
+    ensures tells { Tells heap.now run result }
+    ensures made { result.next ≢ run.next }
+    ensures spends { last_of heap.now.config result ≤ last_of heap.now.config run + 3 * most_in_pause }
+    ensures room { (room.new.items ≡ []) × (vec_capacity room.new ≡ vec_capacity room.old) }
+{
+    let next = run.next();
+    let mut run = run;
+    look_first(heap, &mut run);
+    if run.next() != next {
+        return run;
+    }
+    if wants(&run) {
+        return serve_first(heap, run, room);
+    }
+    let run = come_back(heap, run, room);
+    make_on(heap, run, room)
 }

@@ -6,7 +6,7 @@ use heap_rule::Heap;
 use run_turns::{DomainRun, go_on};
 
 // Whether a run has asked for a pause for its next command, and none has come since.
-fn wants(run: &DomainRun) -> bool
+pub(crate) fn wants(run: &DomainRun) -> bool
     ensures yes { result ≡ true → Wants run.now }
     ensures no { result ≡ false → Wants run.now → ⊥ }
 {
