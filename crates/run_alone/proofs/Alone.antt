@@ -1,10 +1,10 @@
 -- A heap's only domain meets nobody as it looks at the barrier.
-use Rattle.std.proofs.Common.{◌≡◌, ◌≢◌, ◌<◌, ◌^◌, ◌∷◌, ℕ, zero, suc, List, [], Option, Some, None, arith, refl, sym, subst}
+use Rattle.std.proofs.Common.{◌≡◌, ◌≢◌, ◌<◌, ◌^◌, ◌∷◌, ℕ, zero, suc, List, [], Option, None, arith, refl, sym, subst}
 use Rattle.heap_rule.specs.Token.{SharedHeap, IsIn}
 use Rattle.gc_pause.specs.declared.phases.decider.Decider.{Decider}
 use Rattle.run_turns.specs.declared.turned.Turned.TheVariants.{Did}
 use Rattle.run_turns.specs.Meeting.{HasRun, MayPassAmong, PassesAmong}
-use Rattle.run_turns.specs.Runs.{IsRun, PassesOn, RunView, run_seeing}
+use Rattle.run_turns.specs.Runs.{IsRun, PassesOn, RunView}
 use Rattle.run_turns.proofs.MeetingLemmas.{seeing_is_run}
 use Rattle.run_alone.specs.Lone.{PassesAlone}
 

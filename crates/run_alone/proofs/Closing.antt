@@ -1,11 +1,10 @@
 -- A step of a heap's only domain, while it runs and gets no more command.
-use Rattle.std.proofs.Common.{true≢false, ◌≡◌, ◌∙◌, ◌⊎◌, ◌+◌, ◌<◌, ◌≤◌, inl, inr, ℕ, Bool, true, false, List, length, slice_get, Some, arith, refl, sym, ap, ⊎_elim}
+use Rattle.std.proofs.Common.{true≢false, ◌≡◌, ◌∙◌, ◌⊎◌, ◌+◌, ◌<◌, ◌≤◌, inl, inr, true, false, length, slice_get, Some, arith, sym, ap}
 use Rattle.model_core.specs.declared.command.Command as model
 use Rattle.heap_rule.specs.declared.view.DomainView.{DomainView}
 use Rattle.heap_rule.specs.Token.{SharedHeap}
 use Rattle.run_turns.proofs.Owing.{ran_count}
 use Rattle.run_turns.proofs.Turning.{inside}
-use Rattle.run_turns.specs.declared.supply.Supply.{Supply}
 use Rattle.run_turns.specs.declared.supply.Supply.TheVariants.{Closed, Open, Section}
 use Rattle.run_turns.specs.declared.turned.Turned.{Turned}
 use Rattle.run_turns.specs.declared.turned.Turned.TheVariants.{Did, Waiting as WaitsFor, Hungry, Held, Idle}

@@ -1,5 +1,5 @@
 -- A command that is made at once, or handed in.
-use Rattle.std.proofs.Common.{◌≡◌, ◌≢◌, ◌∙◌, ◌⊎◌, ◌+◌, ⊎_elim, ℕ, Option, Some, None, refl, sym, ap, subst}
+use Rattle.std.proofs.Common.{◌≡◌, ◌∙◌, ◌⊎◌, ◌+◌, ⊎_elim, ℕ, None, refl, sym, ap}
 use Rattle.model_core.specs.declared.command.Command as model
 use Rattle.model_core.specs.declared.reply.Reply.{Reply}
 use Rattle.heap_rule.specs.declared.config.Config.{Config}
@@ -9,16 +9,15 @@ use Rattle.heap_rule.specs.Standing.{with_front}
 use Rattle.heap_rule.specs.Token.{SharedHeap, IsIn}
 use Rattle.do_alloc.proofs.OfPools.Seeking.{sought_view}
 use Rattle.run_turns.specs.declared.supply.Supply.TheVariants.{Open}
-use Rattle.run_turns.specs.Runs.{RunView, IsRun, MakesNow, MaySubmit, NowAnswers, PutsOff, submitted, wanting}
+use Rattle.run_turns.specs.Runs.{RunView, IsRun, MakesNow, MaySubmit, PutsOff, submitted, wanting}
 use Rattle.run_turns.specs.Runs.PutsOff.{HasArrived, OwesFinaliser, WorksFirst, IsWanted, IsTried}
-use Rattle.run_turns.specs.Singly.Driving.{Answered, Awaits}
+use Rattle.run_turns.specs.Singly.Driving.{Awaits}
 use Rattle.run_turns.proofs.AtOnce.{has_waited}
-use Rattle.run_turns.proofs.OfSingly.Begun.{handed_in, may_still, now_answered}
+use Rattle.run_turns.proofs.OfSingly.Begun.{handed_in, may_still}
 use Rattle.run_alone.specs.Lone.{IsLone}
 use Rattle.run_alone.specs.Paces.{last_of}
 use Rattle.run_alone.proofs.Paces.{last_running}
 use Rattle.run_alone.proofs.Served.{lone_submitted}
-use Rattle.run_alone.proofs.Telling.{tells_submitted}
 
 -- where it was put off the domain has arrived as often as before
 arrivals_stay : (h : SharedHeap) (old new : RunView) (c : model.Command) → PutsOff h old new c → new.token.view.own.arrivals ≡ old.token.view.own.arrivals
@@ -37,7 +36,6 @@ last_same k old new was now same = last_running k new now ∙ (ap (λ (n : ℕ).
 
 -- it was made at once
 module _ (h : SharedHeap) (old new : RunView) (c : model.Command) (reply : Reply) (m : MakesNow h old new c reply) where
-
   pub made_unasked : new.asked ≡ None
   made_unasked = ap (λ (r : RunView). r.asked) m.made.0
 

@@ -1,12 +1,11 @@
 -- What a step of a heap's only domain leaves of its run, while it runs.
-use Rattle.std.proofs.Common.{true≢false, ◌≡◌, ◌≢◌, ◌∙◌, ◌+◌, ◌<◌, ◌≤◌, ℕ, Bool, true, false, List, [], ◌∷◌, Option, Some, None, length, slice_get, zero, suc, arith, refl, sym, ap, subst, ⊎_elim, ltb-true, lt-ltb}
+use Rattle.std.proofs.Common.{true≢false, ◌≡◌, ◌≢◌, ◌∙◌, ◌+◌, ◌<◌, ◌≤◌, ℕ, Bool, true, false, List, [], ◌∷◌, Option, Some, None, length, slice_get, zero, suc, arith, refl, sym, ap, subst, ⊎_elim, ltb-true}
 use Rattle.std.proofs.lemmas.Bool.{le-ltb}
 use Rattle.std.proofs.lemmas.Bool.Decides.{nat_tests}
 use Rattle.model_core.specs.declared.command.Command as model
 use Rattle.model_core.specs.declared.command.Command.TheVariants.{Alloc, Store, SetKey, SetData, Minor, Major, FullMajor, Raw, Cas, Spawn, PutResult}
 use Rattle.model_core.specs.Domains.{IsWithinLimits}
 use Rattle.heap_rule.specs.declared.config.Config.{Config}
-use Rattle.heap_rule.specs.declared.phase.Kind.TheVariants.{Run}
 use Rattle.heap_rule.specs.declared.view.DomainView.{DomainView}
 use Rattle.heap_rule.specs.declared.view.Hunt.TheVariants.{Rests as AtRest}
 use Rattle.heap_rule.specs.declared.view.Own.{Own}
@@ -20,7 +19,6 @@ use Rattle.heap_rule.specs.Token.{SharedHeap, IsIn}
 use Rattle.do_alloc.proofs.OfPools.Seeking.{sought_view}
 use Rattle.run_turns.proofs.Owing.{ran_count}
 use Rattle.run_turns.proofs.Working.{works_keeps}
-use Rattle.run_turns.specs.declared.supply.Supply.{Supply}
 use Rattle.run_turns.specs.declared.supply.Supply.TheVariants.{Open, Section}
 use Rattle.run_turns.specs.declared.turned.Turned.{Turned}
 use Rattle.run_turns.specs.declared.turned.Turned.TheVariants.{Did, Waiting as WaitsFor, Hungry, Held, Idle}

@@ -1,12 +1,11 @@
 -- The pause for which a heap's only domain has asked.
-use Rattle.std.proofs.Common.{true≢false, ◌≡◌, ◌≢◌, ◌∙◌, ◌⊎◌, ◌+◌, ◌*◌, ◌<◌, ◌≤◌, inl, inr, ⊎_elim, ℕ, Bool, true, false, List, [], Option, Some, None, length, slice_get, arith, refl, sym, ap, subst, lt-ltb}
-use Rattle.model_core.specs.declared.command.Command.TheVariants.{FullMajor}
+use Rattle.std.proofs.Common.{true≢false, ◌≡◌, ◌≢◌, ◌∙◌, ◌⊎◌, ◌+◌, inl, inr, ⊎_elim, ℕ, Bool, true, false, Option, Some, None, length, arith, refl, sym, ap, subst, lt-ltb}
 use Rattle.model_core.specs.Domains.{IsWithinLimits, domain_at}
 use Rattle.heap_rule.specs.declared.config.Config.{Config}
 use Rattle.heap_rule.specs.declared.phase.Kind.{Kind}
 use Rattle.heap_rule.specs.declared.phase.Kind.TheVariants.{Run, Answer}
 use Rattle.heap_rule.specs.Limits.{sizes_in}
-use Rattle.heap_rule.specs.Phases.{IsEven, IsOdd}
+use Rattle.heap_rule.specs.Phases.{IsOdd}
 use Rattle.heap_rule.specs.Rule.{state_of}
 use Rattle.heap_rule.specs.Token.{SharedHeap, IsIn}
 use Rattle.gc_pause.proofs.OfLaws.Blocks.{owes_few}
@@ -14,7 +13,6 @@ use Rattle.run_turns.specs.declared.supply.Supply.TheVariants.{Open}
 use Rattle.run_turns.specs.Runs.{IsRun, KnowsQueue, RunView, halted, is_asked, served_since}
 use Rattle.run_turns.proofs.PauseLemmas.{even_next, not_both}
 use Rattle.run_alone.specs.Lone.{IsBehindAnswer, IsLone, IsPausing, IsServed, ServesOn, Wants}
-use Rattle.run_alone.specs.Paces.{last_of, most_in_pause}
 use Rattle.run_alone.proofs.Keeping.{asks_none, lone_halted, wants_none}
 use Rattle.run_alone.proofs.Paces.{halted_last}
 use Rattle.run_alone.proofs.Telling.{tells_halted, tells_itself, tells_on}

@@ -1,5 +1,5 @@
 -- What the steps of a heap's only domain come to, by the command that its run has to make.
-use Rattle.std.proofs.Common.{◌≡◌, ◌≢◌, ◌∙◌, ◌+◌, ◌∷◌, inl, inr, ⊎_elim, ℕ, List, [], Option, Some, None, length, arith, refl, sym, ap, subst}
+use Rattle.std.proofs.Common.{◌≡◌, ◌≢◌, ◌∙◌, inl, inr, List, Option, Some, None, length, arith, refl, sym, ap, subst}
 use Rattle.model_core.specs.declared.command.Command as model
 use Rattle.model_core.specs.declared.entry.Entry.{Entry}
 use Rattle.model_core.specs.declared.reply.Reply.{Reply}
@@ -31,10 +31,10 @@ module _ (h : SharedHeap) (a b : RunView) (commands : b.commands ≡ a.commands)
     by : (o : Option Reply) → AwaitAnswers h start c b o → Awaits h start c b
     by None x = x
     by (Some reply) x = absurd (
-      let done = x.done in
-      let one : length b.commands ≡ 1 = ap (λ (cs : List model.Command). length cs) (commands ∙ w.commands) in
-      let zeroth = w.next in
-      omega (arith, done, one, next, zeroth))
+        let done = x.done in
+        let one : length b.commands ≡ 1 = ap (λ (cs : List model.Command). length cs) (commands ∙ w.commands) in
+        let zeroth = w.next in
+        omega (arith, done, one, next, zeroth))
 
 -- one step after the other, where the first hasn't made the command
 pub tells_on : (h : SharedHeap) (a b c : RunView) → b.commands ≡ a.commands → b.next ≡ a.next → Tells h a b → Tells h b c → Tells h a c

@@ -1,30 +1,24 @@
 -- What a step in a pause leaves of the run of a heap's only domain.
-use Rattle.std.proofs.Common.{true≢false, ◌≡◌, ◌≢◌, ◌∙◌, ◌⊎◌, ◌&&◌, ◌||◌, ◌==◌, ◌+◌, ◌*◌, ◌<◌, ◌≤◌, inl, inr, ⊎_elim, ℕ, Bool, true, false, if◌then◌else◌, List, [], Option, Some, None, length, slice_get, arith, refl, sym, ap, subst, lt-ltb}
+use Rattle.std.proofs.Common.{true≢false, ◌≡◌, ◌≢◌, ◌∙◌, ◌⊎◌, ◌&&◌, ◌||◌, ◌==◌, ◌+◌, ◌<◌, inl, inr, ⊎_elim, ℕ, Bool, true, false, if◌then◌else◌, Option, Some, None, slice_get, arith, refl, sym, ap, subst, lt-ltb}
 use Rattle.std.proofs.lemmas.Bool.{eq-eqb}
 use Rattle.model_core.specs.declared.command.Command as model
-use Rattle.model_core.specs.declared.command.Command.TheVariants.{FullMajor}
-use Rattle.model_core.specs.declared.entry.Entry.{Entry}
 use Rattle.heap_rule.specs.declared.config.Config.{Config}
 use Rattle.heap_rule.specs.declared.phase.Kind.{Kind}
 use Rattle.heap_rule.specs.declared.phase.Kind.TheVariants.{Run, Promote, Reset, Roots, Mark, Rounds, Decide, Queued, Clean, Lasts, Sweep, Answer}
 use Rattle.heap_rule.specs.declared.phase.Progress.{Progress}
-use Rattle.heap_rule.specs.declared.phase.Stage.TheVariants.{In, Leads as Leading}
 use Rattle.heap_rule.specs.declared.view.DomainView.{DomainView}
-use Rattle.heap_rule.specs.Phases.{Comes, IsEven, IsOdd}
-use Rattle.heap_rule.specs.Rule.{state_of}
+use Rattle.heap_rule.specs.Phases.{IsEven, IsOdd}
 use Rattle.heap_rule.specs.Token.{SharedHeap, IsIn}
-use Rattle.step_pauses.specs.Pauses.{IsModeOf, arrived_view}
 use Rattle.gc_pause.specs.declared.phases.decider.Decider.{Decider}
 use Rattle.gc_pause.specs.declared.phases.decider.Decider.TheVariants.{Caller}
 use Rattle.gc_pause.specs.Phases.Leading.{Findings, LeadsOn, next_kind}
 use Rattle.run_turns.specs.Pausing.{LeavesEven, LeavesOdd, blocks_left}
-use Rattle.run_turns.specs.declared.turned.Turned.TheVariants.{Did}
-use Rattle.run_turns.specs.Runs.{GoesBy, IsRun, PassesOn, Resumes, RunView, SeesAnswer, WaitsForAnswer, is_asked, lets_refuse, may_use_up, run_seeing, served_since}
+use Rattle.run_turns.specs.Runs.{GoesBy, IsRun, Resumes, RunView, SeesAnswer, is_asked, lets_refuse, may_use_up, run_seeing, served_since}
 use Rattle.run_turns.specs.Runs.{IsAnswered as RunIsAnswered}
 use Rattle.run_turns.proofs.LeavingLemmas.{passes_leaves}
-use Rattle.run_turns.proofs.PauseLemmas.{even_next, not_both, odd_next}
+use Rattle.run_turns.proofs.PauseLemmas.{not_both, odd_next}
 use Rattle.run_alone.specs.Lone.{AsksOnce, IsBehindAnswer, IsLone, IsPausing, IsServed, PassesAlone, Wants, decides}
-use Rattle.run_alone.specs.Paces.{last_of, steps_left}
+use Rattle.run_alone.specs.Paces.{steps_left}
 use Rattle.run_alone.proofs.Keeping.{asks_none, wants_none}
 use Rattle.run_alone.proofs.Telling.{tells_on, tells_passed, tells_seen}
 use Rattle.run_alone.proofs.Paces.{nearer, no_later, went}

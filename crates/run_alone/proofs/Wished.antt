@@ -1,7 +1,6 @@
 -- The turn in which a wish that was left over is found.
-use Rattle.std.proofs.Common.{◌≡◌, ◌≢◌, ◌∙◌, ◌⊎◌, ◌+◌, ◌*◌, ◌<◌, ◌≤◌, inl, inr, ⊎_elim, ℕ, Option, Some, None, length, arith, refl, sym, ap, subst}
+use Rattle.std.proofs.Common.{◌≡◌, ◌∙◌, ◌⊎◌, ◌+◌, ◌*◌, ◌<◌, inl, inr, ⊎_elim, Option, Some, None, length, arith, refl, sym, ap, subst}
 use Rattle.model_core.specs.Domains.{IsWithinLimits}
-use Rattle.heap_rule.specs.declared.config.Config.{Config}
 use Rattle.heap_rule.specs.declared.phase.Kind.{Kind}
 use Rattle.heap_rule.specs.declared.phase.Kind.TheVariants.{Run}
 use Rattle.heap_rule.specs.declared.phase.Note.TheVariants.{Want}
@@ -10,7 +9,6 @@ use Rattle.heap_rule.specs.Limits.{sizes_in}
 use Rattle.heap_rule.specs.Phases.{IsOdd}
 use Rattle.heap_rule.specs.Token.{SharedHeap, IsIn}
 use Rattle.gc_pause.specs.declared.phases.decider.Decider.TheVariants.{Wishes as ByWishes}
-use Rattle.run_turns.specs.declared.supply.Supply.TheVariants.{Open, Section}
 use Rattle.run_turns.specs.declared.turned.Turned.{Turned}
 use Rattle.run_turns.specs.declared.turned.Turned.TheVariants.{Did, Waiting as WaitsFor, Hungry, Held, Idle}
 use Rattle.run_turns.specs.declared.turned.Turned.TheVariants.{Ended as Over}
@@ -20,7 +18,6 @@ use Rattle.run_turns.proofs.Looking.{looked_is_run}
 use Rattle.run_turns.proofs.OfSingly.Driven.{awaits_turn}
 use Rattle.run_turns.proofs.PauseLemmas.{even_next}
 use Rattle.run_alone.specs.Lone.{IsLone, LooksFirst, Tells as Telling, Wants}
-use Rattle.run_alone.specs.Paces.{last_of, most_in_pause}
 use Rattle.run_alone.proofs.Keeping.{Came, asks_none, came, lone_calm, wants_none, wants_now}
 use Rattle.run_alone.proofs.Keeping.Came.{Finalised, Asked, IsShort, Made}
 use Rattle.run_alone.proofs.Paces.{last_odd, last_running}

@@ -26,9 +26,9 @@ fn at_once(heap: &Heap, run: &mut DomainRun, command: Command) -> Option<Reply>
     run.perform_now(heap, command)
 }
 
-// The same, but where it isn't made it is handed in.
+/// Makes a command at once, as `perform_now` does, and answers its reply. Where it isn't made so it is handed in.
 #[inline(always)]
-pub(crate) fn hand_in(heap: &Heap, run: &mut DomainRun, command: Command) -> Option<Reply>
+pub fn hand_in(heap: &Heap, run: &mut DomainRun, command: Command) -> Option<Reply>
     requires here { IsIn run.old.token heap.now }
     requires alone { heap.now.config.domains ≡ 1 }
     requires may { MaySubmit run.old command }

@@ -12,6 +12,7 @@ mod trying;
 mod wishing;
 
 pub use ending::end;
+pub use handing::hand_in;
 pub use pausing::come_back;
 pub use performing::perform;
 pub use serving::make;

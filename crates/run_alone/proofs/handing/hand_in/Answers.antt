@@ -1,4 +1,4 @@
-use Rattle.std.proofs.Common.{◌≡◌, ◌∙◌, Option, None, ap, subst, sym}
+use Rattle.std.proofs.Common.{◌∙◌, Option, ap, subst, sym}
 use Rattle.model_core.specs.declared.reply.Reply.{Reply}
 use Rattle.run_turns.specs.Runs.{IsRun, NowAnswers, RunView}
 use Rattle.run_turns.specs.Singly.Driving.{Awaits}

@@ -1,7 +1,7 @@
-use Rattle.std.proofs.Common.{◌≡◌, ◌<◌, ◌^◌, []}
+use Rattle.std.proofs.Common.{◌≡◌, []}
 use Rattle.std.specs.Prelude.{vec_capacity}
 use Rattle.run_alone.specs.Lone.{IsPausing, decides}
-use Rattle.run_alone.specs.Paces.{last_of, steps_left}
+use Rattle.run_alone.specs.Paces.{steps_left}
 use Rattle.run_alone.proofs.pausing.pause.Given as goal
 
 abbrev pub invariant-passes : goal.invariant-passes

@@ -1,4 +1,4 @@
-use Rattle.std.proofs.Common.{◌≡◌, ◌<◌, length}
+use Rattle.std.proofs.Common.{◌≡◌}
 use Rattle.run_alone.specs.Lone.{IsLone, StandsAs, Tells}
 use Rattle.step_finalisers.specs.Registering.{count_of}
 use Rattle.run_alone.proofs.trying.try_on.Given as goal
