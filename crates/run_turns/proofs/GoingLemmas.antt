@@ -135,6 +135,15 @@ run_same h old new (Held section) says = wanted old new 0 (stepped h (wanting ol
 run_same h old new (Idle n) says = wanted old new 0 (rests (wanting old 0) new n says.0)
 run_same h old new Over says = wanted old new 0 (rests (wanting old 0) new h.config.domains says)
 
+-- a step of a running domain, whatever the want word is
+calm_same : (h : SharedHeap) (old new : RunView) (a : Turned) → CalmAnswers h old new a → IsSame old new
+calm_same h old new Did says = calm_did h old new says
+calm_same h old new (Waiting b) says = absurd says
+calm_same h old new Hungry says = record { commands = ap (λ (r : RunView). r.commands) says.run; supply = ap (λ (r : RunView). r.supply) says.run; spawned = ap (λ (r : RunView). is_spawned_at r.place) says.run; number = ap (λ (r : RunView). r.token.view.own.number) says.run; front = same_prefix _ _ (ap (λ (r : RunView). r.token.view.seen.front) says.run) }
+calm_same h old new (Held section) says = stepped h old new (held_steps h old new section says)
+calm_same h old new (Idle n) says = rests old new n says.0
+calm_same h old new Over says = rests old new h.config.domains says
+
 -- a running domain that found no wish
 pub calm_run : (h : SharedHeap) (old start new : RunView) (w : ℕ) (a : Turned) → start ≡ wanting old w → w ≡ 0 → CalmAnswers h start new a → RunAnswers h old new a
 calm_run h old start new w a is none says = by_answer a (subst (λ (n : ℕ). CalmAnswers h (wanting old n) new a) none (subst (λ (r : RunView). CalmAnswers h r new a) is says))
@@ -232,3 +241,7 @@ past_stays decider h old new Runs r is ended = record { ended = ap (λ (x : RunV
 
 pub past_goes : (decider : Decider) (h : SharedHeap) (old new : RunView) (past : LookOutcome) → PastAnswers h decider old new past → IsRun old → GoesOn old new
 past_goes decider h old new past says is = goes old new (past_same decider h old new past says) (past_stays decider h old new past says is)
+
+-- and what such a step left
+pub calm_goes : (h : SharedHeap) (old new : RunView) (a : Turned) → CalmAnswers h old new a → (old.ended ≡ true → StaysOver old new) → GoesOn old new
+calm_goes h old new a says over = goes old new (calm_same h old new a says) over

@@ -25,7 +25,7 @@ use Rattle.run_turns.specs.LookOutcomes.{CameOf, Looked, PassAnswers, PassHints,
 use Rattle.run_turns.specs.Meeting.{StandsBehind}
 use Rattle.run_turns.specs.declared.turned.Turned.TheVariants.{Did}
 use Rattle.run_turns.specs.Pausing.{HasLeft, KnowsProgress, due_of}
-use Rattle.run_turns.specs.Runs.{RunView, IsRun, PassesOn, StandsAt, WaitsForAnswer, is_asked, may_use_up, run_seeing}
+use Rattle.run_turns.specs.Runs.{RunView, IsRun, PassesOn, StandsAt, WaitsForAnswer, is_asked, lets_refuse, run_seeing}
 use Rattle.run_turns.proofs.Moving.{token_is}
 use Rattle.run_turns.proofs.PassingLemmas.{arrived_is_run, gives_is_run, waits_is_run, runs_is_run}
 use Rattle.run_turns.proofs.Turning.{asked_going, answered_is_run, next_replies, next_running}
@@ -34,7 +34,7 @@ module _ (decider : Decider) (h : SharedHeap) (r : RunView) (new : Token) (last 
   pub after_is_run : (past : LookOutcome) → StaysDeck r.hints hints → IsRun r → r.left ≡ Some last → IsIn r.token h → IsIn new h → PassAnswers h.config decider r.token.view new.view last live past → (live ≡ true → WaitsForAnswer r) → KnowsProgress progress new.view → IsRun (run_after h.config r new past last progress hints)
   after_is_run (Waits b) stays is left was here says waits knows = waits_is_run h r new last b progress hints stays is left was here says.1 knows
   after_is_run (Arrived kind) stays is left was here says waits knows = arrived_is_run decider h r new last kind progress hints stays is left was here says knows
-  after_is_run (Answered blocks None) stays is left was here says waits knows = gives_is_run h r new (is_asked r.asked && may_use_up h.config blocks) progress hints stays is was here says.1 knows
+  after_is_run (Answered blocks None) stays is left was here says waits knows = gives_is_run h r new (is_asked r.asked && lets_refuse h.config blocks) progress hints stays is was here says.1 knows
   after_is_run (Answered blocks (Some reply)) stays is left was here says waits knows =
       let waits = waits says.0 in
       answered_is_run h r new reply progress hints stays is (next_running r is FullMajor waits.next) waits.next (asked_going r is waits.wished) was here says.1 knows
@@ -64,7 +64,7 @@ module _ (decider : Decider) (h : SharedHeap) (r : RunView) (new : Token) (last 
         arrived = left;
         none = rests says.0;
         gives = says.1;
-        run = λ i. record r { token = token i; left = Some Answer; collected = is_asked r.asked && may_use_up h.config (count i); progress = progress; hints = same i };
+        run = λ i. record r { token = token i; left = Some Answer; collected = is_asked r.asked && lets_refuse h.config (count i); progress = progress; hints = same i };
       }
   after_answers (Answered blocks (Some reply)) left was here says same waits rests =
       let token = token_is h r.token new new.view was here refl in record {

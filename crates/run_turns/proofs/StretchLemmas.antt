@@ -1,5 +1,5 @@
 -- How a domain's front grows in a turn.
-use Rattle.std.proofs.Common.{◌≡◌, ◌∙◌, ℕ, ◌+◌, Bool, true, false, arith, List, [], ◌∷◌, ◌++◌, refl, sym, ap, subst, append-nil, append_assoc, ⊎_elim, slice_get, Some, None}
+use Rattle.std.proofs.Common.{◌≡◌, ◌∙◌, ℕ, ◌+◌, Bool, true, false, arith, List, [], ◌∷◌, ◌++◌, refl, sym, ap, subst, append-nil, append_assoc, inr, ⊎_elim, slice_get, Some, None}
 use Rattle.model_core.specs.declared.command.Command as model
 use Rattle.model_core.specs.declared.command.Command.TheVariants.{FullMajor, Poll}
 use Rattle.model_core.specs.declared.entry.Entry.{Entry}
@@ -29,9 +29,10 @@ use Rattle.run_turns.specs.declared.turned.Turned.{Turned}
 use Rattle.run_turns.specs.declared.turned.Turned.TheVariants.{Did, Waiting, Hungry, Held, Idle}
 use Rattle.run_turns.specs.declared.turned.Turned.TheVariants.{Ended as Over}
 use Rattle.run_turns.specs.Tries.{ephemerons_given, labels_given}
-use Rattle.run_turns.specs.Runs.{RunView, Appended, CalmDid, EndsTrace, GoesBy, IsAnswered, MadeNone, Resumes, Rests, RunAnswers, RunsFinaliser, SeesAnswer, Starts, Stops, Stretches, Takes, TriesCommand, TurnAnswers, Waits, asking_end, ran_with, said_with, wanting}
+use Rattle.run_turns.specs.Runs.{RunView, Appended, CalmAnswers, CalmDid, EndsTrace, GoesBy, IsAnswered, MadeNone, PassesOn, Resumes, Rests, RunAnswers, RunsFinaliser, SeesAnswer, Starts, Stops, Stretches, Takes, TriesCommand, TurnAnswers, Waits, asking_end, ran_with, said_with, wanting}
 use Rattle.run_turns.specs.Runs.CalmDid.{Finalises, Wishes, Refuses, Tries, Works, Ends, Sees, Makes, Tells, WishesToTell}
 use Rattle.run_turns.specs.Runs.Stretches.{ByOthers, ByCommand, ByFinaliser, ByEnd, BySection}
+use Rattle.gc_pause.specs.declared.phases.decider.Decider.{Decider}
 use Rattle.gc_pause.specs.declared.phases.decider.Decider.TheVariants.{Wishes as ByWishes}
 use Rattle.run_turns.proofs.LeavingLemmas.{passes_leaves}
 use Rattle.run_turns.proofs.Taking.{arrived_takes, searched_takes, takes_more, takes_none, takes_on, takes_then, tried_takes}
@@ -284,9 +285,9 @@ starts h old start here = ⊎_elim
       takes = takes_none _ _ (ap (λ (x : DomainView). x.own.serial) t.passed.view) (ap (λ (x : DomainView). x.own.ephemerons) t.passed.view);
     })
 
-gone : (h : SharedHeap) (old new : RunView) → GoesBy h ByWishes old new → Stretches (sizes_in h.config) old new
-gone h old new g =
-    let l = passes_leaves ByWishes h.config old.token.view new.token.view g.last g.kind g.passes in
+gone : (decider : Decider) (h : SharedHeap) (old new : RunView) → GoesBy h decider old new → Stretches (sizes_in h.config) old new
+gone decider h old new g =
+    let l = passes_leaves decider h.config old.token.view new.token.view g.last g.kind g.passes in
     ByOthers (record {
       next = ap (λ (r : RunView). r.next) g.run;
       replies = ap (λ (r : RunView). r.replies) g.run;
@@ -347,7 +348,7 @@ waits h old new b w = ByOthers (record {
 -- by what a turn did
 pub turn_stretches : (h : SharedHeap) (old new : RunView) (a : Turned) → IsIn old.token h → TurnAnswers h old new a → Stretches (sizes_in h.config) old new
 turn_stretches h old new Did here says = ⊎_elim
-    (λ (g : GoesBy h ByWishes old new). gone h old new g)
+    (λ (g : GoesBy h ByWishes old new). gone ByWishes h old new g)
     (⊎_elim
     (λ (a : IsAnswered h old new). answered h old new a)
     (⊎_elim
@@ -359,3 +360,40 @@ turn_stretches h old new Hungry here t = running h old t.0 new Hungry (starts h 
 turn_stretches h old new (Held section) here t = running h old t.0 new (Held section) (starts h old t.0 here t.1) t.2
 turn_stretches h old new (Idle n) here t = running h old t.0 new (Idle n) (starts h old t.0 here t.1) t.2
 turn_stretches h old new Over here t = running h old t.0 new Over (starts h old t.0 here t.1) t.2
+
+-- where a step starts by itself
+itself : (h : SharedHeap) (old : RunView) → IsIn old.token h → StartsFrom h old old
+itself h old here = record { commands = refl; supply = refl; next = refl; replies = refl; ran = refl; ended = refl; number = refl; config = here.1; front = front_whole old.token.view.own.number old.token.view.seen.front; listed = refl; takes = takes_none old.token.view old.token.view refl refl }
+
+-- by what a step of a running domain did, whatever the want word is
+pub calm_stretches : (h : SharedHeap) (old new : RunView) (a : Turned) → IsIn old.token h → CalmAnswers h old new a → Stretches (sizes_in h.config) old new
+calm_stretches h old new Did here c = calm h old old new (itself h old here) c
+calm_stretches h old new (Waiting b) here c = absurd c
+calm_stretches h old new Hungry here c = ByOthers (still h old old new (itself h old here) (record {
+  next = ap (λ (r : RunView). r.next) c.run;
+  replies = ap (λ (r : RunView). r.replies) c.run;
+  ran = ap (λ (r : RunView). r.ran) c.run;
+  ended = ap (λ (r : RunView). r.ended) c.run;
+  front = ap (λ (r : RunView). r.token.view.seen.front) c.run;
+  listed = ap (λ (r : RunView). count_of r.token.view.own.finalisers) c.run;
+  takes = takes_none _ _ (ap (λ (r : RunView). r.token.view.own.serial) c.run) (ap (λ (r : RunView). r.token.view.own.ephemerons) c.run);
+}))
+calm_stretches h old new (Held section) here c = stepped h old old new (itself h old here) (held_steps h old new section c)
+calm_stretches h old new (Idle n) here c = rests h old old new n (itself h old here) c.0
+calm_stretches h old new Over here c = rests h old old new h.config.domains (itself h old here) c
+
+-- and by what a step of a domain did that had arrived, whoever decides
+pub passed_stretches : (decider : Decider) (h : SharedHeap) (old new : RunView) (a : Turned) → IsIn old.token h → PassesOn h decider old new a → Stretches (sizes_in h.config) old new
+passed_stretches decider h old new Did here says = ⊎_elim
+    (λ (g : GoesBy h decider old new). gone decider h old new g)
+    (⊎_elim
+    (λ (a : IsAnswered h old new). answered h old new a)
+    (⊎_elim
+    (λ (s : SeesAnswer h old new). seen h old new s)
+    (λ (t : Resumes h old new). ByOthers (still h old new new (starts h old new here (inr t)) (keeps_all new)))))
+    says
+passed_stretches decider h old new (Waiting b) here w = waits h old new b w
+passed_stretches decider h old new Hungry here w = absurd w
+passed_stretches decider h old new (Held section) here w = absurd w
+passed_stretches decider h old new (Idle n) here w = absurd w
+passed_stretches decider h old new Over here w = absurd w

@@ -22,7 +22,7 @@ use Rattle.gc_pause.specs.declared.stops.answer.Look.TheVariants.{NotAll}
 use Rattle.run_turns.specs.declared.passing.LookOutcome.{LookOutcome}
 use Rattle.run_turns.specs.declared.passing.LookOutcome.TheVariants.{Waits, Arrived, Answered, Runs}
 use Rattle.run_turns.specs.Pausing.{HasLeft, HasNothingPending, IsCollected, GivesBack, AnswersLive, KnowsProgress, blocks_left, due_of}
-use Rattle.run_turns.specs.Runs.{RunView, Passes, PassesHints, GoesBy, IsAnswered, SeesAnswer, Waits as RunWaits, Resumes, is_asked, may_use_up}
+use Rattle.run_turns.specs.Runs.{RunView, Passes, PassesHints, GoesBy, IsAnswered, SeesAnswer, Waits as RunWaits, Resumes, is_asked, lets_refuse}
 
 -- a domain that has arrived, with a phase whose kind it keeps, looked at the barrier, and found this. `live`: it waits for the answer of a `full_major`, before which it owes no finaliser
 pub record Looked (k : Config) (x y : DomainView) (last : Kind) (live : Bool) (progress : Progress) (found : Look) : Type 0 where
@@ -82,7 +82,7 @@ asked_after past asked = asked
 -- whether the next command may be answered `full`, where a collection was answered that left so many blocks
 abbrev pub collected_after : Config → LookOutcome → Option ℕ → Bool → Bool
 collected_after k (Answered blocks (Some reply)) asked collected = false
-collected_after k (Answered blocks None) asked collected = is_asked asked && may_use_up k blocks
+collected_after k (Answered blocks None) asked collected = is_asked asked && lets_refuse k blocks
 collected_after k past asked collected = collected
 
 -- and what it owes, where so many finalisers wait

@@ -1,5 +1,5 @@
 -- A domain's trace on the shared heap, and what a turn does to it.
-use Rattle.std.specs.Prelude.{◌≡◌, ◌≢◌, ◌==◌, ◌&&◌, ℕ, ◌+◌, ◌*◌, ◌%◌, ◌^◌, ◌<◌, ◌≤◌, ◌⊎◌, ◌↔◌, nat_lt, nat_le, Option, None, Bool, true, false, List, [], ◌∷◌, ◌++◌, length, take, drop, replicate, pos, slice_get, Some, IsTrue}
+use Rattle.std.specs.Prelude.{◌≡◌, ◌≢◌, ◌==◌, ◌&&◌, ◌||◌, ℕ, ◌+◌, ◌*◌, ◌%◌, ◌^◌, ◌<◌, ◌≤◌, ◌⊎◌, ◌↔◌, nat_lt, nat_le, Option, None, Bool, true, false, List, [], ◌∷◌, ◌++◌, length, take, drop, replicate, pos, slice_get, Some, IsTrue}
 use Rattle.std.specs.List.{list_any}
 use Rattle.model_core.specs.declared.command.Command as model
 use Rattle.model_core.specs.declared.entry.Entry.{Entry}
@@ -600,13 +600,17 @@ pub record IsAnswered (h : SharedHeap) (old new : RunView) : Type 0 where
 abbrev pub may_use_up : Config → ℕ → Bool
 may_use_up k blocks = nat_le k.pools (blocks + reserve (sizes_in k))
 
--- or its next command is none, or it hasn't asked for a pause for it, or it owes finalisers before it. A complete collection has come for it where it had been tried, and counts where it left so many blocks that they may use up the pools
+-- whether a complete collection that left so many lets an allocation be answered `full` that is refused behind it: they may use up the pools, or nobody else is there who may have used up what it freed
+abbrev pub lets_refuse : Config → ℕ → Bool
+lets_refuse k blocks = k.domains == 1 || may_use_up k blocks
+
+-- or its next command is none, or it hasn't asked for a pause for it, or it owes finalisers before it. A complete collection has come for it where it had been tried, and counts where it left so many blocks that they may use up the pools, or where no other domain is there
 pub record SeesAnswer (h : SharedHeap) (old new : RunView) : Type 0 where
   pub last : Kind
   pub arrived : old.left ≡ Some last
   pub none : WaitsForAnswer old → ⊥
   pub gives : GivesBack h.config old.token.view new.token.view
-  pub run : new ≡ record old { token = record old.token { view = new.token.view }; left = Some Answer; collected = is_asked old.asked && may_use_up h.config (blocks_left h.config new.token.view); progress = new.progress }
+  pub run : new ≡ record old { token = record old.token { view = new.token.view }; left = Some Answer; collected = is_asked old.asked && lets_refuse h.config (blocks_left h.config new.token.view); progress = new.progress }
 
 -- not all have arrived: the barrier word b, found in this turn, is below the end of the domain's turn
 pub record Waits (h : SharedHeap) (old new : RunView) (b : ℕ) : Type 0 where

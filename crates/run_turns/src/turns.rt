@@ -10,7 +10,7 @@ ghost use Rattle.heap_rule.specs.Standing.{noted, with_front, ShowsRegisters};
 ghost use Rattle.heap_rule.specs.Token.{IsIn};
 ghost use Rattle.gc_pause.specs.Stops.Looks.{bit_of};
 ghost use Rattle.heap_rule.specs.Limits.{sizes_in};
-ghost use Rattle.run_turns.specs.Runs.{EndsWith, KnowsQueue, StaysOver, Stretches, HasEnded, EndsTrace, RunAnswers, TurnAnswers, RestAnswers, CalmAnswers, GoesOn, CalmDid, IsHandedIn, IsUnqueued, PassesOn, Polls, RunsFinaliser, TrialAnswers, WaitsForAnswer, is_asked, may_use_up, served_since, halted, noted_token, ran_with, said_with, WorksBeside};
+ghost use Rattle.run_turns.specs.Runs.{EndsWith, KnowsQueue, StaysOver, Stretches, HasEnded, EndsTrace, RunAnswers, TurnAnswers, RestAnswers, CalmAnswers, GoesOn, CalmDid, IsHandedIn, IsUnqueued, PassesOn, Polls, RunsFinaliser, TrialAnswers, WaitsForAnswer, is_asked, lets_refuse, may_use_up, served_since, halted, noted_token, ran_with, said_with, WorksBeside};
 ghost use Rattle.run_turns.specs.Sections.{IsOrdinary, IsTold};
 ghost use Rattle.run_turns.specs.LookOutcomes.{PastAnswers, asked_after, collected_after, due_after, next_after, replies_after};
 ghost use Rattle.model_core.specs.declared.reply.Reply as says;
@@ -402,12 +402,21 @@ fn may_use_up(heap: &Heap, blocks: u64) -> bool
     u64::from(config.pools - reserve(config.domains, config.minor_words)) <= blocks
 }
 
-// Whether a complete collection that left so many blocks lets the next command be answered `full`.
-// `asked` says whether the domain had asked for a pause for it, and when.
-fn lets_refuse(heap: &Heap, asked: Option<u64>, blocks: u64) -> bool
-    ensures { result ≡ (is_asked asked && may_use_up heap.now.config blocks) }
+// Whether a complete collection that left so many blocks lets an allocation be answered `full` that is
+// refused behind it: they may use up the pools, or no other domain is there that may have used up what it
+// freed.
+fn lets_refuse(heap: &Heap, blocks: u64) -> bool
+    ensures { result ≡ lets_refuse heap.now.config blocks }
 {
-    asked.is_some() && may_use_up(heap, blocks)
+    heap.config().domains == 1 || may_use_up(heap, blocks)
+}
+
+// Whether it lets the next command be answered `full`. `asked` says whether the domain had asked for a
+// pause for it, and when.
+fn counts_for(heap: &Heap, asked: Option<u64>, blocks: u64) -> bool
+    ensures { result ≡ (is_asked asked && lets_refuse heap.now.config blocks) }
+{
+    asked.is_some() && lets_refuse(heap, blocks)
 }
 
 // What a run keeps of its commands where a collection was answered, and `queued` finalisers wait in its
@@ -445,7 +454,7 @@ pub(crate) fn keep_answer(
         LookOutcome::Answered {
             blocks,
             reply: None,
-        } => *collected = lets_refuse(heap, *asked, blocks),
+        } => *collected = counts_for(heap, *asked, blocks),
         LookOutcome::Waits(_) | LookOutcome::Arrived(_) | LookOutcome::Runs => (),
     }
 }

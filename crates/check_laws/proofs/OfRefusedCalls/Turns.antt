@@ -1,5 +1,5 @@
 -- What the clauses of `turn` refuse.
-use Rattle.std.proofs.Common.{◌≡◌, ◌≢◌, ◌∙◌, ℕ, ◌+◌, ◌*◌, ◌<◌, ◌≤◌, Bool, true, false, None, List, [], ◌∷◌, ◌++◌, ◌&&◌, length, Option, refl, sym, ap, ⊎_elim, arith}
+use Rattle.std.proofs.Common.{◌≡◌, ◌≢◌, ◌∙◌, ℕ, ◌+◌, ◌*◌, ◌<◌, ◌≤◌, Bool, true, false, None, List, [], ◌∷◌, ◌++◌, ◌&&◌, ◌||◌, ◌==◌, length, Option, refl, sym, ap, ⊎_elim, arith}
 use Rattle.model_core.specs.declared.command.Command.TheVariants.{AllocMaj, Minor}
 use Rattle.model_core.specs.declared.reply.Reply.{Reply}
 use Rattle.heap_rule.specs.declared.config.Config.{Config}
@@ -13,10 +13,10 @@ use Rattle.gc_pause.specs.declared.stops.answer.Want.TheVariants.{Finish}
 use Rattle.model_core.specs.Domains.{class_count, reserve}
 use Rattle.heap_rule.specs.Rule.{state_of}
 use Rattle.heap_rule.specs.Limits.{sizes_in}
-use Rattle.std.proofs.lemmas.Bool.{le-leb, lt-leb}
+use Rattle.std.proofs.lemmas.Bool.{eq-eqb, le-leb, lt-leb, ne_eqb}
 use Rattle.gc_pause.specs.declared.phases.decider.Decider.{Decider}
 use Rattle.run_turns.specs.Pausing.{LeavesOdd, blocks_left}
-use Rattle.run_turns.specs.Runs.{CalmDid, EndsTrace, IsAnswered, IsHandedIn, Polls, RunView, RunsFinaliser, SeesAnswer, Stops, TriesCommand, WorksBeside, answer_of, asking_end, first_reply, is_asked, may_use_up, ran_with, served_since}
+use Rattle.run_turns.specs.Runs.{CalmDid, EndsTrace, IsAnswered, IsHandedIn, Polls, RunView, RunsFinaliser, SeesAnswer, Stops, TriesCommand, WorksBeside, answer_of, asking_end, first_reply, is_asked, lets_refuse, may_use_up, ran_with, served_since}
 use Rattle.run_turns.specs.Runs.CalmDid.{Finalises, Wishes, Refuses, Tries, Works, Ends, Sees, Makes, Tells, WishesToTell}
 use Rattle.run_turns.specs.declared.supply.Supply.{Supply}
 use Rattle.run_turns.specs.declared.supply.Supply.TheVariants.{Listed, Section, Open, Closed}
@@ -69,18 +69,19 @@ pub a_later_pause_takes_the_collection : (old new : RunView) → Stops old new �
 a_later_pause_takes_the_collection old new s = ap (λ (r : RunView). r.collected) s.run
 
 -- whether a complete collection counts for the domain's next command is told by whether it had asked, and by how many blocks live where its front has come
-counted : (h : SharedHeap) (old new : RunView) → SeesAnswer h old new → new.collected ≡ (is_asked old.asked && may_use_up h.config (blocks_left h.config new.token.view))
+counted : (h : SharedHeap) (old new : RunView) → SeesAnswer h old new → new.collected ≡ (is_asked old.asked && lets_refuse h.config (blocks_left h.config new.token.view))
 counted h old new s = ap (λ (r : RunView). r.collected) s.run
 
 -- a complete collection for which the domain hadn't asked doesn't count for its next command
 pub the_collection_of_others_counts_nothing : (h : SharedHeap) (old new : RunView) → old.asked ≡ None → SeesAnswer h old new → new.collected ≡ false
-the_collection_of_others_counts_nothing h old new unasked s = counted h old new s ∙ ap (λ (o : Option ℕ). is_asked o && may_use_up h.config (blocks_left h.config new.token.view)) unasked
+the_collection_of_others_counts_nothing h old new unasked s = counted h old new s ∙ ap (λ (o : Option ℕ). is_asked o && lets_refuse h.config (blocks_left h.config new.token.view)) unasked
 
--- nor does one that left so few blocks that more pools are free than the reserve: a body that counts every complete collection is refused
-pub a_collection_that_left_little_counts_nothing : (h : SharedHeap) (old new : RunView) → SeesAnswer h old new → blocks_left h.config new.token.view + reserve (sizes_in h.config) < h.config.pools → new.collected ≡ false
-a_collection_that_left_little_counts_nothing h old new s little =
+-- nor does one that left so few blocks that more pools are free than the reserve, where the heap has several domains: a body that counts every complete collection is refused
+pub a_collection_that_left_little_counts_nothing : (h : SharedHeap) (old new : RunView) → SeesAnswer h old new → h.config.domains ≢ 1 → blocks_left h.config new.token.view + reserve (sizes_in h.config) < h.config.pools → new.collected ≡ false
+a_collection_that_left_little_counts_nothing h old new s several little =
     let no : may_use_up h.config (blocks_left h.config new.token.view) ≡ false = lt-leb h.config.pools (blocks_left h.config new.token.view + reserve (sizes_in h.config)) little in
-    counted h old new s ∙ (ap (λ (b : Bool). is_asked old.asked && b) no ∙ none (is_asked old.asked))
+    let apart : (h.config.domains == 1) ≡ false = ne_eqb h.config.domains 1 several in
+    counted h old new s ∙ ((λ i. is_asked old.asked && (apart i || no i)) ∙ none (is_asked old.asked))
   where
     none : (b : Bool) → (b && false) ≡ false
     none true = refl
@@ -90,7 +91,17 @@ a_collection_that_left_little_counts_nothing h old new s little =
 pub a_collection_that_left_much_counts : (h : SharedHeap) (old new : RunView) → SeesAnswer h old new → is_asked old.asked ≡ true → h.config.pools ≤ blocks_left h.config new.token.view + reserve (sizes_in h.config) → new.collected ≡ true
 a_collection_that_left_much_counts h old new s asked much =
     let yes : may_use_up h.config (blocks_left h.config new.token.view) ≡ true = le-leb h.config.pools (blocks_left h.config new.token.view + reserve (sizes_in h.config)) much in
-    counted h old new s ∙ (λ i. asked i && yes i)
+    counted h old new s ∙ ((λ i. asked i && ((h.config.domains == 1) || yes i)) ∙ either (h.config.domains == 1))
+  where
+    either : (b : Bool) → (b || true) ≡ true
+    either true = refl
+    either false = refl
+
+-- so does one that came for it in a heap of one domain, however much it left: a domain alone asks for one complete collection at most for an allocation
+pub alone_a_collection_counts : (h : SharedHeap) (old new : RunView) → SeesAnswer h old new → is_asked old.asked ≡ true → h.config.domains ≡ 1 → new.collected ≡ true
+alone_a_collection_counts h old new s asked alone =
+    let one : (h.config.domains == 1) ≡ true = eq-eqb h.config.domains 1 alone in
+    counted h old new s ∙ (λ i. asked i && (one i || may_use_up h.config (blocks_left h.config new.token.view)))
 
 -- a poll that marked and found no hint more asks for the end of the cycle
 pub a_spent_poll_asks_for_the_end : (h : SharedHeap) (old new : RunView) (p : Polls h old new) → p.spent ≡ true → new.token.view.seen.notes ≡ p.made.token.view.seen.notes ++ Asked (bit_of Finish) ∷ []

@@ -1,0 +1,62 @@
+-- A step of a heap's only domain, while it runs and gets no more command.
+use Rattle.std.proofs.Common.{true≢false, ◌≡◌, ◌∙◌, ◌⊎◌, ◌+◌, ◌<◌, ◌≤◌, inl, inr, true, false, length, slice_get, Some, arith, sym, ap}
+use Rattle.model_core.specs.declared.command.Command as model
+use Rattle.heap_rule.specs.declared.view.DomainView.{DomainView}
+use Rattle.heap_rule.specs.Token.{SharedHeap}
+use Rattle.run_turns.proofs.Owing.{ran_count}
+use Rattle.run_turns.proofs.Turning.{inside}
+use Rattle.run_turns.specs.declared.supply.Supply.TheVariants.{Closed, Open, Section}
+use Rattle.run_turns.specs.declared.turned.Turned.{Turned}
+use Rattle.run_turns.specs.declared.turned.Turned.TheVariants.{Did, Waiting as WaitsFor, Hungry, Held, Idle}
+use Rattle.run_turns.specs.declared.turned.Turned.TheVariants.{Ended as Over}
+use Rattle.run_turns.specs.Runs.{RunView, CalmAnswers, CalmDid}
+use Rattle.run_turns.specs.Runs.CalmDid.{Finalises, Wishes, Refuses, Tries, Works, Ends, Sees, Makes, Tells, WishesToTell}
+use Rattle.step_finalisers.specs.Registering.{count_of}
+use Rattle.run_alone.proofs.Keeping.{works_run}
+
+-- its trace has ended, or it ran a finaliser
+pub record Closes (r s : RunView) : Type 0 where
+  pub supply : s.supply ≡ r.supply
+  pub left : s.left ≡ r.left
+  pub commands : s.commands ≡ r.commands
+  pub next : s.next ≡ r.next
+  pub fewer : (s.ended ≡ true) ⊎ ((s.ended ≡ r.ended) × (count_of s.token.view.own.finalisers < count_of r.token.view.own.finalisers))
+
+module _ (h : SharedHeap) (r s : RunView) (closed : r.supply ≡ Closed) (past : length r.commands ≤ r.next) (going : r.ended ≡ false) where
+  no_section : r.supply ≡ Section → ⊥
+  no_section section = let e : Closed ≡ Section = sym closed ∙ section in cc
+
+  none_left : (c : model.Command) → slice_get r.commands r.next ≡ Some c → ⊥
+  none_left c at = let few = inside r.commands r.next c at in omega (arith, few, past)
+
+  did : CalmDid h r s → Closes r s
+  did (Finalises f) = record {
+    supply = ap (λ (v : RunView). v.supply) f.run;
+    left = ap (λ (v : RunView). v.left) f.run;
+    commands = ap (λ (v : RunView). v.commands) f.run;
+    next = ap (λ (v : RunView). v.next) f.run;
+    fewer = inr (ap (λ (v : RunView). v.ended) f.run, let one = ap (λ (x : DomainView). count_of x.own.finalisers + 1) f.first.view ∙ ran_count f.first.first r.token.view.own f.first.is_first in omega (arith, one));
+  }
+  did (Wishes a) = absurd (none_left a.command a.next)
+  did (Refuses a) = absurd (none_left a.command a.next)
+  did (Tries c other t) = absurd (none_left c t.next)
+  did (Works p) = let w = works_run h r p.worked p.spent p.works in absurd (none_left _ ((λ i. slice_get (ap (λ (v : RunView). v.commands) (sym w) i) (ap (λ (v : RunView). v.next) (sym w) i)) ∙ p.tried.next))
+  did (Ends e) = record {
+    supply = ap (λ (v : RunView). v.supply) e.run;
+    left = ap (λ (v : RunView). v.left) e.run;
+    commands = ap (λ (v : RunView). v.commands) e.run;
+    next = ap (λ (v : RunView). v.next) e.run;
+    fewer = inl (ap (λ (v : RunView). v.ended) e.run);
+  }
+  did (Sees t) = absurd (no_section t.sectioned)
+  did (Makes c t) = absurd (no_section t.sectioned)
+  did (Tells t) = absurd (no_section t.sectioned)
+  did (WishesToTell a) = absurd (no_section a.sectioned)
+
+  pub closes : (a : Turned) → CalmAnswers h r s a → Closes r s
+  closes Did c = did c
+  closes (WaitsFor n) c = absurd c
+  closes Hungry c = absurd (let e : Closed ≡ Open = sym closed ∙ c.more in cc)
+  closes (Held section) c = absurd (no_section c.sectioned)
+  closes (Idle n) c = absurd (true≢false (sym c.0.over ∙ going))
+  closes Over c = absurd (true≢false (sym c.over ∙ going))

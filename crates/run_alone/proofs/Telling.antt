@@ -1,0 +1,96 @@
+-- What the steps of a heap's only domain come to, by the command that its run has to make.
+use Rattle.std.proofs.Common.{◌≡◌, ◌≢◌, ◌∙◌, inl, inr, List, Option, Some, None, length, arith, refl, sym, ap, subst}
+use Rattle.model_core.specs.declared.command.Command as model
+use Rattle.model_core.specs.declared.entry.Entry.{Entry}
+use Rattle.model_core.specs.declared.reply.Reply.{Reply}
+use Rattle.model_core.proofs.Histories.FrontLemmas.{front_whole}
+use Rattle.heap_rule.specs.declared.view.DomainView.{DomainView}
+use Rattle.heap_rule.specs.Ending.{Begins}
+use Rattle.heap_rule.specs.Limits.{sizes_in}
+use Rattle.heap_rule.specs.Token.{SharedHeap, IsIn}
+use Rattle.gc_pause.specs.declared.phases.decider.Decider.{Decider}
+use Rattle.run_turns.specs.declared.supply.Supply.TheVariants.{Open}
+use Rattle.run_turns.specs.declared.turned.Turned.{Turned}
+use Rattle.run_turns.specs.declared.turned.Turned.TheVariants.{Did}
+use Rattle.run_turns.specs.Runs.{RunView, CalmAnswers, GoesOn, IsRun, PassesOn, Stretches, answer_of, first_reply, halted, run_seeing, submitted}
+use Rattle.run_turns.specs.Runs.Stretches.{ByOthers}
+use Rattle.run_turns.specs.Sections.{is_spawned_at}
+use Rattle.run_turns.specs.Singly.Driving.{Answered, AwaitAnswers, Awaits}
+use Rattle.run_turns.proofs.GoingLemmas.{IsSame, answered_goes, calm_goes, gone_goes, seen_goes as answer_goes}
+use Rattle.run_turns.proofs.Moving.{front_prefix}
+use Rattle.run_turns.proofs.OfSingly.Begun.{handed_in}
+use Rattle.run_turns.proofs.OfSingly.Driven.{awaits_turn}
+use Rattle.run_turns.proofs.StretchLemmas.{calm_stretches, passed_stretches}
+use Rattle.run_turns.proofs.Taking.{takes_none}
+use Rattle.run_alone.specs.Lone.{Tells}
+
+-- whoever has the command to make still hasn't made it
+module _ (h : SharedHeap) (a b : RunView) (commands : b.commands ≡ a.commands) (next : b.next ≡ a.next) (first : Tells h a b) (start : DomainView) (c : model.Command) (w : Awaits h start c a) where
+  pub still : Awaits h start c b
+  still = by (answer_of b) (first start c w) where
+    by : (o : Option Reply) → AwaitAnswers h start c b o → Awaits h start c b
+    by None x = x
+    by (Some reply) x = absurd (
+        let done = x.done in
+        let one : length b.commands ≡ 1 = ap (λ (cs : List model.Command). length cs) (commands ∙ w.commands) in
+        let zeroth = w.next in
+        omega (arith, done, one, next, zeroth))
+
+-- one step after the other, where the first hasn't made the command
+pub tells_on : (h : SharedHeap) (a b c : RunView) → b.commands ≡ a.commands → b.next ≡ a.next → Tells h a b → Tells h b c → Tells h a c
+tells_on h a b c commands next first second start command w = second start command (still h a b commands next first start command w)
+
+pub tells_itself : (h : SharedHeap) (a : RunView) → Tells h a a
+tells_itself h a start command w = subst (λ (o : Option Reply). AwaitAnswers h start command a o) (sym none) w where
+  none : answer_of a ≡ None
+  none = λ i. first_reply (w.more i) (w.replies i)
+
+-- a step while it runs
+pub tells_calm : (h : SharedHeap) (r s : RunView) (a : Turned) → IsIn r.token h → IsIn s.token h → IsRun r → r.supply ≡ Open → CalmAnswers h r s a → Tells h r s
+tells_calm h r s a was here is more says start command w = awaits_turn h start command r s w here (calm_stretches h r s a was says) (calm_goes h r s a says (λ ended. absurd (is.shut ended more)))
+
+-- one that sees more of the history
+seen_stretches : (h : SharedHeap) (r : RunView) (history : List Entry) → Begins history r.token.view → Stretches (sizes_in h.config) r (run_seeing r history)
+seen_stretches h r history begins = ByOthers (record { next = refl; replies = refl; ran = refl; ended = refl; front = begins; listed = refl; takes = takes_none _ _ refl refl })
+
+seen_goes : (r : RunView) (history : List Entry) → Begins history r.token.view → GoesOn r (run_seeing r history)
+seen_goes r history begins = record { commands = refl; supply = refl; spawned = refl; number = refl; front = front_prefix _ _ _ begins; over = λ ended. record { ended = ended; next = refl; replies = refl } }
+
+pub tells_seen : (h : SharedHeap) (r : RunView) (history : List Entry) → IsIn r.token h → Begins history r.token.view → Tells h r (run_seeing r history)
+tells_seen h r history here begins start command w = awaits_turn h start command r (run_seeing r history) w here (seen_stretches h r history begins) (seen_goes r history begins)
+
+-- one that arrives
+pub tells_halted : (h : SharedHeap) (r : RunView) → IsIn (halted r).token h → Tells h r (halted r)
+tells_halted h r here start command w = awaits_turn h start command r (halted r) w here
+    (ByOthers (record { next = refl; replies = refl; ran = refl; ended = refl; front = front_whole r.token.view.own.number r.token.view.seen.front; listed = refl; takes = takes_none _ _ refl refl }))
+    (record { commands = refl; supply = refl; spawned = refl; number = refl; front = front_prefix _ _ _ (front_whole r.token.view.own.number r.token.view.seen.front); over = λ ended. record { ended = ended; next = refl; replies = refl } })
+
+-- and one that goes on in a pause
+same_past : (decider : Decider) (h : SharedHeap) (q s : RunView) → PassesOn h decider q s Did → IsSame q s
+same_past decider h q s (inl g) = gone_goes decider h q s g
+same_past decider h q s (inr (inl a)) = answered_goes h q s a
+same_past decider h q s (inr (inr (inl a))) = answer_goes h q s a
+same_past decider h q s (inr (inr (inr a))) = record {
+  commands = ap (λ (x : RunView). x.commands) a.run;
+  supply = ap (λ (x : RunView). x.supply) a.run;
+  spawned = ap (λ (x : RunView). is_spawned_at x.place) a.run;
+  number = ap (λ (x : DomainView). x.own.number) a.passed.view;
+  front = front_prefix _ _ _ a.passed.seen;
+}
+
+goes_past : (decider : Decider) (h : SharedHeap) (q s : RunView) → IsRun q → q.supply ≡ Open → PassesOn h decider q s Did → GoesOn q s
+goes_past decider h q s is more p = let g = same_past decider h q s p in record { commands = g.commands; supply = g.supply; spawned = g.spawned; number = g.number; front = g.front; over = λ ended. absurd (is.shut ended more) }
+
+pub tells_passed : (decider : Decider) (h : SharedHeap) (q s : RunView) → IsIn q.token h → IsIn s.token h → IsRun q → q.supply ≡ Open → PassesOn h decider q s Did → Tells h q s
+tells_passed decider h q s was here is more p start command w = awaits_turn h start command q s w here (passed_stretches decider h q s Did was p) (goes_past decider h q s is more p)
+
+-- a command that was just handed in
+pub tells_submitted : (h : SharedHeap) (r : RunView) (c : model.Command) → IsIn r.token h → r.supply ≡ Open → Awaits h r.token.view c (submitted r c)
+tells_submitted h r c here more = handed_in h r r (submitted r c) c here more (record { run = refl; number = refl; front = front_whole r.token.view.own.number r.token.view.seen.front; listed = refl; takes = takes_none r.token.view r.token.view refl refl }) refl
+
+-- it was made, and this is its reply
+pub answered : (h : SharedHeap) (start : DomainView) (c : model.Command) (r : RunView) (o : Option Reply) → AwaitAnswers h start c r (answer_of r) → o ≡ answer_of r → (reply : Reply) → o ≡ Some reply → Answered h start c reply r
+answered h start c r o told same reply is = subst (λ (p : Option Reply). AwaitAnswers h start c r p) (sym same ∙ is) told
+
+pub never_none : (h : SharedHeap) (start : DomainView) (c : model.Command) (r : RunView) (o : Option Reply) → AwaitAnswers h start c r (answer_of r) → o ≡ answer_of r → o ≡ None → r.next ≢ 0 → ⊥
+never_none h start c r o told same none made = made (subst (λ (p : Option Reply). AwaitAnswers h start c r p) (sym same ∙ none) told).next
