@@ -1,5 +1,6 @@
 pub mod Paces
 pub mod Alone
+pub mod Idling
 pub mod Telling
 pub mod Keeping
 pub mod Walking
