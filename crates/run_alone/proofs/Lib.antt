@@ -8,3 +8,4 @@ pub mod Served
 pub mod Closing
 pub mod Handed
 pub mod Wished
+pub mod Refused

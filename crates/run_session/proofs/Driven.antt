@@ -1,6 +1,7 @@
 -- The run of a session, as it makes a command and as its trace ends.
-use Rattle.std.proofs.Common.{drop, ◌≡◌, ◌≢◌, ◌∙◌, ℕ, ◌+◌, ◌*◌, ◌<◌, ◌≤◌, ◌-◌, ◌^◌, ◌++◌, ◌∷◌, [], Option, Some, None, length, refl, sym, ap, subst, arith}
+use Rattle.std.proofs.Common.{drop, List, ◌≡◌, ◌≢◌, ◌∙◌, ℕ, ◌+◌, ◌*◌, ◌<◌, ◌≤◌, ◌-◌, ◌^◌, ◌++◌, ◌∷◌, [], Option, Some, None, length, refl, sym, ap, subst, arith}
 use Rattle.model_core.specs.declared.command.Command as model
+use Rattle.model_core.specs.declared.entry.Entry.{Entry}
 use Rattle.model_core.specs.declared.reply.Reply.{Reply}
 use Rattle.model_core.specs.declared.state.Sizes.{Sizes}
 use Rattle.model_core.specs.Counts.Counts.{ephemerons_given, labels_given}
@@ -11,18 +12,20 @@ use Rattle.heap_rule.specs.Limits.{sizes_in}
 use Rattle.heap_rule.specs.Token.{SharedHeap, IsIn}
 use Rattle.run_turns.specs.Handed.{PerformedOn}
 use Rattle.run_turns.specs.declared.supply.Supply.{Supply}
-use Rattle.run_turns.specs.declared.supply.Supply.TheVariants.{Open}
+use Rattle.run_turns.specs.declared.supply.Supply.TheVariants.{Open, Closed}
 use Rattle.run_turns.specs.Runs.{HasLabels, HasLooked, IsRun, MaySubmit, RunView, labels_in, registrations_in}
-use Rattle.run_turns.specs.Singly.Driving.{Answered}
+use Rattle.run_turns.specs.Singly.Driving.{Awaits}
 use Rattle.run_turns.specs.Tries.{registrations_of}
 use Rattle.step_finalisers.specs.Registering.{count_of}
-use Rattle.run_alone.specs.Lone.{IsLone}
+use Rattle.run_alone.specs.Idling.{Idles, Over}
+use Rattle.run_alone.specs.Lone.{ComesBack}
+use Rattle.run_alone.proofs.Idling.{idles_closed, idles_now}
 use Rattle.run_alone.specs.Paces.{IsPaced, last_of, most_in_pause}
 use Rattle.run_alone.proofs.Paces.{last_high}
 use Rattle.run_alone.proofs.Served.{lone_looked}
 use Rattle.run_alone.proofs.Walking.{zeroth}
 use Rattle.run_session.proofs.Labels.{made_labels}
-use Rattle.run_session.specs.Driving.{HasGivenOut, Makes, Rests, RestsIn, session_of}
+use Rattle.run_session.specs.Driving.{Finishes, HasGivenOut, Makes, Rests, RestsIn, session_of}
 use Rattle.run_session.specs.Sessions.{MayPerform, SessionView, most_arrivals, most_spent}
 
 -- a run that rests is there
@@ -159,3 +162,26 @@ may_arrive h o v c i is may r there =
     let seen : r.token.view.own.arrivals ≡ v.stats.arrivals = ap (λ (w : SessionView). w.stats.arrivals) (sym (ap (session_of h.config) there) ∙ is) in
     let few = may.arrivals in
     few_left h r (rests_as h o r i there) (omega (arith, seen, few))
+
+-- a command that was handed in and then finished
+pub finishes_makes : (h : SharedHeap) (old mid : RunView) (o p : Option RunView) (c : model.Command) (reply : Reply) → o ≡ Some old → Awaits h old.token.view c mid → last_of h.config mid ≡ last_of h.config old → Finishes h (Some mid) p reply → Makes h o p c reply
+finishes_makes h old mid o p c reply was w last f =
+    let e : ◌≡◌ {A = Option RunView} (Some mid) (Some f.old) = f.was in
+    let same : mid ≡ f.old = cc in record {
+      old = old;
+      was = was;
+      new = f.new;
+      is = f.is;
+      lone = f.lone;
+      answered = f.answered old.token.view c (subst (Awaits h old.token.view c) same w);
+      spends = let spends = f.spends in let equal : last_of h.config f.old ≡ last_of h.config mid = ap (last_of h.config) (sym same) in omega (arith, spends, equal, last);
+      paced = f.paced;
+    }
+
+-- a run that rests comes back, gets no more, and ends
+pub stopped : (h : SharedHeap) (o : Option RunView) (r s t u : RunView) → RestsIn h o → o ≡ Some r → ComesBack h r s → t ≡ record s { supply = Closed } → ((front : List Entry) → Idles h front t → Over h front u) → Over h r.token.view.seen.front u
+stopped h o r s t u i there back closed over =
+    let rests = rests_as h o r i there in
+    let front : List Entry = r.token.view.seen.front in
+    let now : Idles h front r = idles_now h r rests.lone.here (zeroth h r rests.lone) rests.lone.is rests.lone.more rests.done in
+    over front (idles_closed h front s t (back.idles front now) closed)

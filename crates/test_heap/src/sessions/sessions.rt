@@ -74,7 +74,11 @@ fn finalisers_run_between_commands(rt: HostRuntime) -> Result<(), Fail> {
     }
     same(&rt, session.finals_room(), 1);
     let outside = Command::Forget { dst: 16 };
-    same(&rt, session.refuses(&outside), Some(Refusal::Unfit(Lack::Shape)));
+    same(
+        &rt,
+        session.refuses(&outside),
+        Some(Refusal::Unfit(Lack::Shape)),
+    );
     let forget = Command::Forget { dst: 1 };
     same(&rt, made(&mut session, forget), Some(Reply::Done));
     made(&mut session, Command::FullMajor);

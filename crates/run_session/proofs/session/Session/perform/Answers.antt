@@ -11,20 +11,20 @@ use Rattle.run_session.proofs.Driven.{makes_arrivals, makes_config, makes_finals
 use Rattle.run_session.proofs.session.Session.perform.Goals as goal
 
 pub perform_on-requires-clause-may : goal.perform_on-requires-clause-may
-perform_on-requires-clause-may g c = may_submit c.self.inside.heap c.self.inside.run c.args.self.now c.args.command c.self.invariant.0 c.self.view_is c.requires.may
+perform_on-requires-clause-may c = may_submit c.self.inside.heap c.self.inside.run c.args.self.now c.args.command c.self.invariant.0 c.self.view_is c.requires.may
 
 pub perform_on-requires-clause-few : goal.perform_on-requires-clause-few
-perform_on-requires-clause-few g c = may_arrive c.self.inside.heap c.self.inside.run c.args.self.now c.args.command c.self.invariant.0 c.self.view_is c.requires.may
+perform_on-requires-clause-few c = may_arrive c.self.inside.heap c.self.inside.run c.args.self.now c.args.command c.self.invariant.0 c.self.view_is c.requires.may
 
 pub returns-clause-performed : goal.returns-clause-performed
-returns-clause-performed g c =
+returns-clause-performed c =
     let h = c.self.inside.heap in
     let p = c.perform_on.new.run in
     subst (λ (v : SessionView). PerformedOn (sizes_in v.config) 0 v.front (session_of h.config p).front c.args.command (session_of h.config p).ran c.perform_on.result) c.self.view_is
     (makes_performed h c.self.inside.run p c.args.command c.perform_on.result c.config-limits.ensures.limits c.self.invariant.0 c.perform_on.ensures.makes)
 
 pub returns-clause-commands : goal.returns-clause-commands
-returns-clause-commands g c =
+returns-clause-commands c =
     let h = c.self.inside.heap in
     let old = session_of h.config c.self.inside.run in
     let new = session_of h.config c.perform_on.new.run in
@@ -32,7 +32,7 @@ returns-clause-commands g c =
     (performed_commands (sizes_in old.config) 0 old.front new.front c.args.command new.ran c.perform_on.result (makes_performed h c.self.inside.run c.perform_on.new.run c.args.command c.perform_on.result c.config-limits.ensures.limits c.self.invariant.0 c.perform_on.ensures.makes))
 
 pub returns-clause-replies : goal.returns-clause-replies
-returns-clause-replies g c =
+returns-clause-replies c =
     let h = c.self.inside.heap in
     let old = session_of h.config c.self.inside.run in
     let new = session_of h.config c.perform_on.new.run in
@@ -40,31 +40,31 @@ returns-clause-replies g c =
     (performed_replies (sizes_in old.config) 0 old.front new.front c.args.command new.ran c.perform_on.result (makes_performed h c.self.inside.run c.perform_on.new.run c.args.command c.perform_on.result c.config-limits.ensures.limits c.self.invariant.0 c.perform_on.ensures.makes))
 
 pub returns-clause-config : goal.returns-clause-config
-returns-clause-config g c = subst (λ (v : SessionView). (session_of c.self.inside.heap.config c.perform_on.new.run).config ≡ v.config) c.self.view_is
+returns-clause-config c = subst (λ (v : SessionView). (session_of c.self.inside.heap.config c.perform_on.new.run).config ≡ v.config) c.self.view_is
     (makes_config c.self.inside.heap c.self.inside.run c.perform_on.new.run c.args.command c.perform_on.result c.config-limits.ensures.limits c.self.invariant.0 c.perform_on.ensures.makes)
 
 pub returns-clause-labels : goal.returns-clause-labels
-returns-clause-labels g c = subst (λ (v : SessionView). (session_of c.self.inside.heap.config c.perform_on.new.run).labels ≡ v.labels + labels_given c.args.command c.perform_on.result) c.self.view_is
+returns-clause-labels c = subst (λ (v : SessionView). (session_of c.self.inside.heap.config c.perform_on.new.run).labels ≡ v.labels + labels_given c.args.command c.perform_on.result) c.self.view_is
     (makes_labels c.self.inside.heap c.self.inside.run c.perform_on.new.run c.args.command c.perform_on.result c.config-limits.ensures.limits c.self.invariant.0 c.perform_on.ensures.makes)
 
 pub returns-clause-room : goal.returns-clause-room
-returns-clause-room g c = subst (λ (v : SessionView). v.room ≤ (session_of c.self.inside.heap.config c.perform_on.new.run).room + ephemerons_given c.args.command c.perform_on.result) c.self.view_is
+returns-clause-room c = subst (λ (v : SessionView). v.room ≤ (session_of c.self.inside.heap.config c.perform_on.new.run).room + ephemerons_given c.args.command c.perform_on.result) c.self.view_is
     (makes_room c.self.inside.heap c.self.inside.run c.perform_on.new.run c.args.command c.perform_on.result c.config-limits.ensures.limits c.self.invariant.0 c.perform_on.ensures.makes)
 
 pub returns-clause-finals : goal.returns-clause-finals
-returns-clause-finals g c =
+returns-clause-finals c =
     let new = session_of c.self.inside.heap.config c.perform_on.new.run in
     subst (λ (v : SessionView). v.finals + length new.ran ≤ new.finals + registrations_of c.args.command) c.self.view_is
     (makes_finals c.self.inside.heap c.self.inside.run c.perform_on.new.run c.args.command c.perform_on.result c.config-limits.ensures.limits c.self.invariant.0 c.perform_on.ensures.makes)
 
 pub returns-clause-arrivals : goal.returns-clause-arrivals
-returns-clause-arrivals g c = subst (λ (v : SessionView). (session_of c.self.inside.heap.config c.perform_on.new.run).stats.arrivals ≤ v.stats.arrivals + most_spent) c.self.view_is
+returns-clause-arrivals c = subst (λ (v : SessionView). (session_of c.self.inside.heap.config c.perform_on.new.run).stats.arrivals ≤ v.stats.arrivals + most_spent) c.self.view_is
     (makes_arrivals c.self.inside.heap c.self.inside.run c.perform_on.new.run c.args.command c.perform_on.result c.config-limits.ensures.limits c.self.invariant.0 c.perform_on.ensures.makes)
 
 pub invariant_of-self : goal.invariant_of-self
-invariant_of-self g c = (
-    makes_rests c.self.inside.heap c.self.inside.run c.perform_on.new.run c.args.command c.perform_on.result c.config-limits.ensures.limits c.self.invariant.0 c.perform_on.ensures.makes
-        (subst (λ (v : SessionView). v.stats.arrivals + most_spent ≤ most_arrivals) (sym c.self.view_is) c.requires.may.arrivals),
-    c.perform_on.ensures.room.0,
-    subst (λ (n : ℕ). 1 < n) (sym c.perform_on.ensures.room.1) c.self.invariant.2,
-  )
+invariant_of-self c = (
+  makes_rests c.self.inside.heap c.self.inside.run c.perform_on.new.run c.args.command c.perform_on.result c.config-limits.ensures.limits c.self.invariant.0 c.perform_on.ensures.makes
+      (subst (λ (v : SessionView). v.stats.arrivals + most_spent ≤ most_arrivals) (sym c.self.view_is) c.requires.may.arrivals),
+  c.perform_on.ensures.room.0,
+  subst (λ (n : ℕ). 1 < n) (sym c.perform_on.ensures.room.1) c.self.invariant.2,
+)
