@@ -11,14 +11,16 @@
  * domain has to be turned now and then, also while its program has no command for it, and after it was closed until
  * CAMLHEAP_ENDED. camlheap_perform below does all that for one command.
  *
- * What the commands of a heap reply is what one legal history of an object graph replies that never collects or moves;
- * the contracts of these calls say so (crates/camlheap_c). With valid addresses no call reaches what is undefined. Left to
- * the program: addresses are valid, a handle isn't copied, and one thread at a time calls on a handle. */
+ * What the commands of a domain reply is what a legal history of an object graph replies that never collects or moves, and in
+ * which they stand in order; the contracts of these calls say so, of each handle by itself (crates/camlheap_c). With valid
+ * addresses no call reaches what is undefined. Left to the program: addresses are valid, what the addresses of one call lead to
+ * doesn't overlap, a handle isn't copied, and one thread at a time calls on a handle. */
 #ifndef CAMLHEAP_H
 #define CAMLHEAP_H
 #include <stdbool.h>
 #include <stddef.h>
 #include <stdint.h>
+#include <string.h>
 #ifdef __cplusplus
 extern "C" {
 #endif
@@ -31,6 +33,7 @@ typedef struct { void *at; bool full; } camlheap_domain;
 /* Each call writes to its handle. So handles of several threads that lie within 64 bytes of one another slow each other down, to a
  * quarter of the speed: a thread moves its handle, which camlheap_start has filled, to memory of its own. The other holds none then. */
 static inline void camlheap_move(camlheap_domain *to, camlheap_domain *from) {
+  if (to == from) return;
   *to = *from;
   from->at = NULL;
   from->full = false;
@@ -43,6 +46,9 @@ typedef struct { void *at; bool full; } camlheap_bed;
  * words (D * (minor_words / 4096 + 9) + 9 * D + 1 to 2048 for D domains), 4 and 5 room for finalisers and ephemerons of
  * each domain (at most 200000 each). */
 typedef struct { uint32_t domains, minor_words, pools, finals, ephes; } camlheap_config;
+
+/* The least number of pools of a heap with so many domains and words of each minor area; 2048 is the most. */
+#define CAMLHEAP_LEAST_POOLS(domains, minor_words) ((domains) * ((minor_words) / 4096 + 9) + 9 * (domains) + 1)
 
 /* A command: what it is, and the fields that the table below names. */
 typedef struct { uint8_t op, dst, a, b, tag; uint16_t n; uint32_t number; int64_t value; } camlheap_command;
@@ -138,8 +144,41 @@ enum {
 /* CAMLHEAP_VERSION of the archive. */
 uint32_t camlheap_version(void);
 
-/* Starts a heap, and puts each of its domains into a handle; there are `count`. All memory is taken here. Answers DONE,
- * MEMORY, TOO_FEW_HANDLES or OUTSIDE + field, and fills handles only with DONE. */
+/* What a number that a call answers stands for, in words. */
+static inline const char *camlheap_says(uint32_t told) {
+  switch (told) {
+    case CAMLHEAP_DONE: return "done";
+    case CAMLHEAP_AGAIN: return "it did something, and may go on: ask again";
+    case CAMLHEAP_WAITING: return "other domains are missing in a pause";
+    case CAMLHEAP_HUNGRY: return "there is no command to make";
+    case CAMLHEAP_ENDED: return "the traces of all domains have ended";
+    case CAMLHEAP_NO_DOMAIN: return "the handle holds no domain";
+    case CAMLHEAP_CLOSED: return "the domain is closed";
+    case CAMLHEAP_BUSY: return "the command before isn't made yet";
+    case CAMLHEAP_UNFIT: return "there is no such command, or a register or number is outside its range";
+    case CAMLHEAP_NO_EPHEMERON: return "there is no room for the ephemeron";
+    case CAMLHEAP_NO_FINALISER: return "there is no room for the finaliser";
+    case CAMLHEAP_NO_LABEL: return "the domain has made as many blocks as it may";
+    case CAMLHEAP_NO_REGISTER: return "there is no such register, or not for this call";
+    case CAMLHEAP_MEMORY: return "memory ran out";
+    case CAMLHEAP_TOO_FEW_HANDLES: return "there are fewer handles than domains";
+    case CAMLHEAP_NO_MORE: return "there are no more";
+    case CAMLHEAP_NO_BED: return "the handle holds no bed";
+    case CAMLHEAP_BED_FULL: return "a domain rests in the bed";
+    case CAMLHEAP_HAS_DOMAIN: return "the handle that is to be filled holds a domain";
+    case CAMLHEAP_BED_EMPTY: return "no domain rests in the bed";
+    case CAMLHEAP_OUTSIDE + 1: return "domains is outside its range: 1 to 8";
+    case CAMLHEAP_OUTSIDE + 2: return "minor_words is outside its range: 4096 to 65536 in steps of 4096";
+    case CAMLHEAP_OUTSIDE + 3: return "pools is outside its range: CAMLHEAP_LEAST_POOLS to 2048";
+    case CAMLHEAP_OUTSIDE + 4: return "finals is outside its range: at most 200000";
+    case CAMLHEAP_OUTSIDE + 5: return "ephes is outside its range: at most 200000";
+    default: return "no call answers this";
+  }
+}
+
+/* Starts a heap, and puts each of its domains into a handle; there are `count`. All memory is taken here. DONE,
+ * TOO_FEW_HANDLES, HAS_DOMAIN where one of the handles that are to be filled holds a domain, OUTSIDE + field, or MEMORY; handles
+ * are filled only with DONE. */
 uint32_t camlheap_start(const camlheap_config *config, camlheap_domain *handles, size_t count);
 
 /* Hands in the next command: DONE, or why it isn't taken, and then nothing has changed. */
@@ -172,7 +211,8 @@ uint32_t camlheap_set_data(camlheap_domain *domain, uint8_t ephe, uint8_t item, 
 uint32_t camlheap_get_data(camlheap_domain *domain, uint8_t dst, uint8_t ephe, camlheap_reply *reply);
 uint32_t camlheap_poll(camlheap_domain *domain, camlheap_reply *reply);
 
-/* The reply to the command handed in last: DONE, or AGAIN where it isn't made yet. */
+/* The reply to the command that camlheap_submit handed in last, or that was put off: DONE, or AGAIN where it isn't made yet, or
+ * another was made at once since. */
 uint32_t camlheap_answer(camlheap_domain *domain, camlheap_reply *reply);
 
 /* The finaliser at this place, from 0, among those of the domain that have run since the last command was handed in: DONE
@@ -241,33 +281,98 @@ void camlheap_free(camlheap_domain *domain);
  * Beds of one room know of each other, and whoever waits in a pause turns with its own bed the domains that rest there. A room
  * has up to 64 beds, and any domain may rest in any that is free. As with a domain, one thread at a time calls on a bed.
  *
- * The first bed of a new room: DONE or MEMORY. A further one, made by the first: DONE, NO_BED, UNFIT where `first` isn't the
- * first, NO_MORE, or MEMORY. What the handle that is filled held before is freed with DONE, and nothing has changed else. */
+ * The first bed of a new room: DONE, MEMORY, or AGAIN as camlheap_free_bed answers it. A further one, made by the first: DONE,
+ * NO_BED, UNFIT where `first` isn't the first or both are one handle, NO_MORE, MEMORY, or AGAIN. What the handle that is filled
+ * held before is freed with DONE, and nothing has changed else. */
 uint32_t camlheap_first_bed(camlheap_bed *bed);
 uint32_t camlheap_another_bed(camlheap_bed *first, camlheap_bed *bed);
+static inline uint32_t camlheap_further_bed(camlheap_bed *first, camlheap_bed *bed) {
+  if (first == bed) return first->full ? CAMLHEAP_UNFIT : CAMLHEAP_NO_BED;
+  return camlheap_another_bed(first, bed);
+}
+#define camlheap_another_bed(first, bed) camlheap_further_bed(first, bed)
 
 /* Puts a domain to rest: the handle is empty then. DONE, NO_BED, NO_DOMAIN, CLOSED, BUSY where its last command isn't made yet,
  * BED_FULL, or AGAIN where another thread is in the way, which is rare; nothing has changed else. It costs about a queue's push. */
 uint32_t camlheap_rest(camlheap_domain *domain, camlheap_bed *bed);
 
-/* Takes the domain back, into a handle that holds none. It has made no command meanwhile, and finalisers of it may have run
- * (camlheap_ran). DONE, NO_BED, HAS_DOMAIN, BED_EMPTY, or AGAIN where another thread turns it at the moment. */
+/* Takes the domain back, into a handle that holds none. It is open as it was and has made no command meanwhile, and finalisers
+ * of it may have run. DONE, NO_BED, HAS_DOMAIN, BED_EMPTY, or AGAIN where another thread turns it at the moment. */
 uint32_t camlheap_resume(camlheap_domain *domain, camlheap_bed *bed);
 
 /* One turn of a domain that rests in the room, if one can be had at once: AGAIN where it did something, WAITING, or NO_BED. */
 uint32_t camlheap_attend(camlheap_bed *bed);
 
-/* Frees a bed, and the room with the last of them. A domain that rests there can't be taken back then, and the others of its
- * heap wait for ever when they end. */
-void camlheap_free_bed(camlheap_bed *bed);
+/* What a thread does with its domain before it goes away: the domain is closed, at once or behind the command that it has to
+ * make, and left in the bed, which is freed: whoever waits with another bed of the room turns it to its end. The room frees it
+ * with the last bed. DONE, and both handles are empty; NO_BED, NO_DOMAIN, or BED_FULL, and nothing has changed; or AGAIN where
+ * another thread is in the way, which is rare: ask again. */
+uint32_t camlheap_leave(camlheap_domain *domain, camlheap_bed *bed);
 
-/* What a thread does while it waits for others. */
+/* Frees a bed, and the room with the last of them. A domain that rests there can't be taken back then: while other beds of the
+ * room are there it is turned, but doesn't end, and the others of its heap wait for ever when they end; so camlheap_leave it
+ * instead. DONE, or AGAIN where the bed keeps another thread's domain that it couldn't put back, since others were in the way,
+ * which is rare: then nothing has changed. */
+uint32_t camlheap_free_bed(camlheap_bed *bed);
+
+/* What a thread does while it waits for others: between turns it spins, for CAMLHEAP_SPINS pauses of the processor in all, and
+ * only behind them CAMLHEAP_PAUSE() lets others run. A program may define both. */
 #ifndef CAMLHEAP_PAUSE
 #include <sched.h>
 #define CAMLHEAP_PAUSE() sched_yield()
 #endif
+#ifndef CAMLHEAP_SPINS
+#define CAMLHEAP_SPINS 4096
+#endif
+static inline void camlheap_spin(void) {
+#if defined(__x86_64__) || defined(__i386__)
+  __builtin_ia32_pause();
+#elif defined(__aarch64__)
+  __asm__ volatile("yield");
+#endif
+}
+static inline void camlheap_back_off(unsigned *spun) {
+  if (*spun >= CAMLHEAP_SPINS) {
+    CAMLHEAP_PAUSE();
+    return;
+  }
+  const unsigned more = *spun < 127 ? *spun + 1 : 128;
+  for (unsigned at = 0; at < more; at++) camlheap_spin();
+  *spun += more;
+}
 
-/* The same, but it first turns a domain that rests, where the thread has a bed. */
+/* With the environment variable CAMLHEAP_WATCH=S a wait says on standard error, once, that it has lasted S seconds. It looks at
+ * the clock once in 4096 times. */
+#ifndef CAMLHEAP_NO_WATCH
+#include <stdio.h>
+#include <stdlib.h>
+#include <time.h>
+typedef struct { unsigned spun, looks; time_t since; bool has_said; } camlheap_waits;
+static inline void camlheap_watch(camlheap_waits *waits) {
+  const char *seconds;
+  time_t now;
+  if (++waits->looks % 4096 || waits->has_said || !(seconds = getenv("CAMLHEAP_WATCH"))) return;
+  now = time(NULL);
+  if (!waits->since) waits->since = now;
+  if (now - waits->since < atol(seconds)) return;
+  waits->has_said = true;
+  fprintf(stderr, "camlheap: a domain has waited %s seconds for others of its heap: is each turned by a thread, at rest, or left?\n", seconds);
+}
+#else
+typedef struct { unsigned spun; } camlheap_waits;
+static inline void camlheap_watch(camlheap_waits *waits) { (void)waits; }
+#endif
+static inline camlheap_waits camlheap_no_waits(void) {
+  camlheap_waits waits;
+  memset(&waits, 0, sizeof waits);
+  return waits;
+}
+
+/* One wait, but it first turns a domain that rests, where the thread has a bed. */
+static inline void camlheap_wait_on(camlheap_bed *bed, camlheap_waits *waits) {
+  camlheap_watch(waits);
+  if (!bed || camlheap_attend(bed) != CAMLHEAP_AGAIN) camlheap_back_off(&waits->spun);
+}
 static inline void camlheap_wait(camlheap_bed *bed) {
   if (!bed || camlheap_attend(bed) != CAMLHEAP_AGAIN) CAMLHEAP_PAUSE();
 }
@@ -275,8 +380,9 @@ static inline void camlheap_wait(camlheap_bed *bed) {
 /* Goes on with a command until it is made, from what the call that began it has answered. Other threads have to turn the
  * other domains, or these rest in the room of the bed; it is NULL where the thread has none. */
 static inline uint32_t camlheap_await_beside(camlheap_domain *domain, camlheap_bed *bed, uint32_t told, camlheap_reply *reply) {
+  camlheap_waits waits = camlheap_no_waits();
   while (told == CAMLHEAP_AGAIN || told == CAMLHEAP_WAITING) {
-    if (told == CAMLHEAP_WAITING) camlheap_wait(bed);
+    if (told == CAMLHEAP_WAITING) camlheap_wait_on(bed, &waits);
     told = camlheap_run(domain, 64, reply);
   }
   return told;
@@ -293,23 +399,156 @@ static inline uint32_t camlheap_perform(camlheap_domain *domain, const camlheap_
   return camlheap_perform_beside(domain, NULL, command, reply);
 }
 
-/* Puts a binding into a weak map, and asks anew while that helps: behind turns, then behind a MINOR, and then behind a FULL_MAJOR,
- * which make room for blocks and in the list of ephemerons. What camlheap_map_put answers: AGAIN or NO_EPHEMERON only where there
- * is still no room, or others have won the field each time. Nobody hears of finalisers that run between. */
+/* Turns a domain until it has nothing left to do: what a call on a map wants that answered AGAIN. */
+static inline void camlheap_settle_beside(camlheap_domain *domain, camlheap_bed *bed) {
+  camlheap_waits waits = camlheap_no_waits();
+  uint32_t told;
+  while ((told = camlheap_turn(domain)) == CAMLHEAP_AGAIN || told == CAMLHEAP_WAITING)
+    if (told == CAMLHEAP_WAITING) camlheap_wait_on(bed, &waits);
+}
+
+/* A walk over a weak map by commands of one domain: how it goes, and what it has met. Registers 8 to 14 hold what the fields hold
+ * at which it stands, the highest first; register 15 is used between. */
+typedef struct {
+  camlheap_domain *domain;
+  camlheap_bed *bed;
+  uint32_t told;         /* DONE, or why the walk has ended */
+  uint64_t fields;       /* how many fields it may still look at */
+  int64_t live, taken;   /* leaves that have their key, and such as had lost it and were taken out */
+  bool sweeps, cleans;   /* takes dead leaves out; and gives blocks back that hold nothing */
+} camlheap_walk;
+
+/* Makes a command of a walk. */
+static inline uint32_t camlheap_step(camlheap_walk *walk, uint8_t op, uint8_t dst, uint8_t a, uint8_t b, uint16_t n) {
+  camlheap_command command = {0, 0, 0, 0, 0, 0, 0, 0};
+  camlheap_reply reply;
+  reply.kind = CAMLHEAP_NONE;
+  command.op = op, command.dst = dst, command.a = a, command.b = b, command.n = n;
+  if (walk->told == CAMLHEAP_DONE) walk->told = camlheap_perform_beside(walk->domain, walk->bed, &command, &reply);
+  return reply.kind;
+}
+
+/* Walks over fields `from` to `past` of the block in a register, below which there may be `left` blocks in a row. Tells whether
+ * these fields hold 0 then. Others may use the map meanwhile, but for a walk that cleans. */
+static inline bool camlheap_walk_block(camlheap_walk *walk, uint8_t block, uint8_t left, uint16_t from, uint16_t past) {
+  const uint8_t value = (uint8_t)(14 - left);
+  bool is_empty = true;
+  for (uint16_t index = from; index < past && walk->told == CAMLHEAP_DONE; index++) {
+    if (!walk->fields) return false;
+    walk->fields--;
+    if (camlheap_step(walk, CAMLHEAP_LOAD, value, block, 0, index) != CAMLHEAP_BLOCK) continue;
+    const uint32_t key = camlheap_step(walk, CAMLHEAP_GET_KEY, 15, value, 0, 0);
+    bool is_spent = key == CAMLHEAP_NONE;
+    if (key == CAMLHEAP_BAD_TYPE) {
+      is_spent = left && camlheap_walk_block(walk, value, (uint8_t)(left - 1), 0, 32) && walk->cleans;
+    } else if (!is_spent) walk->live++;
+    if (!is_spent || !walk->sweeps) {
+      is_empty = false;
+      continue;
+    }
+    camlheap_command zero = {CAMLHEAP_PUT_INT, 15, 0, 0, 0, 0, 0, 0};
+    camlheap_reply reply;
+    if (walk->told == CAMLHEAP_DONE) walk->told = camlheap_perform_beside(walk->domain, walk->bed, &zero, &reply);
+    if (camlheap_step(walk, CAMLHEAP_CAS, value, block, 15, index) != CAMLHEAP_YES) is_empty = false;
+    else if (key == CAMLHEAP_NONE) walk->taken++;
+  }
+  return is_empty;
+}
+
+/* Walks over the map in a register, from a field of its first block on, and round, and empties registers 8 to 15 behind it. Tells
+ * whether the map holds nothing. */
+static inline bool camlheap_walk_map(camlheap_walk *walk, uint8_t map, uint16_t from, camlheap_reply *reply) {
+  camlheap_reply held;
+  walk->told = camlheap_show(walk->domain, map, &held);
+  if (walk->told == CAMLHEAP_DONE && map >= 8) walk->told = CAMLHEAP_NO_REGISTER;
+  const uint32_t root = camlheap_step(walk, CAMLHEAP_LOAD, 8, map, 0, 511);
+  const bool is_map = root != CAMLHEAP_BAD_TYPE && root != CAMLHEAP_BAD_INDEX;
+  bool is_empty = is_map && camlheap_walk_block(walk, map, 6, from, 512);
+  if (is_map && from && !camlheap_walk_block(walk, map, 6, 0, from)) is_empty = false;
+  for (uint8_t reg = 8; reg < 16; reg++) camlheap_step(walk, CAMLHEAP_FORGET, reg, 0, 0, 0);
+  if (walk->told == CAMLHEAP_DONE && !is_map) reply->kind = CAMLHEAP_BAD_TYPE;
+  return is_empty;
+}
+
+/* Takes the leaves out of a weak map whose key is dead, which else stay, each with its ephemeron: DONE, and INT, how many; or
+ * DONE and type where the register holds no map; or why a command of it isn't taken. Others may use the map meanwhile: each leaf
+ * is taken out by one compare-and-set, and no binding changes. Blocks of the map stay. Registers 8 to 15 are used, and hold
+ * nothing behind it. Other domains have to be turned, as for camlheap_perform. */
+static inline uint32_t camlheap_map_sweep_beside(camlheap_domain *domain, camlheap_bed *bed, uint8_t map, camlheap_reply *reply) {
+  camlheap_walk walk = {domain, bed, CAMLHEAP_DONE, UINT64_MAX, 0, 0, true, false};
+  camlheap_reply told = {CAMLHEAP_INT, 0, 0, 0, 0, 0, 0};
+  camlheap_walk_map(&walk, map, 0, &told);
+  told.value = told.kind == CAMLHEAP_INT ? walk.taken : 0;
+  if (walk.told == CAMLHEAP_DONE) *reply = told;
+  return walk.told;
+}
+static inline uint32_t camlheap_map_sweep(camlheap_domain *domain, uint8_t map, camlheap_reply *reply) {
+  return camlheap_map_sweep_beside(domain, NULL, map, reply);
+}
+
+/* The same of a map that no other domain uses meanwhile: its blocks that hold nothing any more are given back too, but for the
+ * first. DONE, and yes where the map holds nothing then, or no. */
+static inline uint32_t camlheap_map_clean_beside(camlheap_domain *domain, camlheap_bed *bed, uint8_t map, camlheap_reply *reply) {
+  camlheap_walk walk = {domain, bed, CAMLHEAP_DONE, UINT64_MAX, 0, 0, true, true};
+  camlheap_reply told = {CAMLHEAP_NO, 0, 0, 0, 0, 0, 0};
+  if (camlheap_walk_map(&walk, map, 0, &told)) told.kind = CAMLHEAP_YES;
+  if (walk.told == CAMLHEAP_DONE) *reply = told;
+  return walk.told;
+}
+static inline uint32_t camlheap_map_clean(camlheap_domain *domain, uint8_t map, camlheap_reply *reply) {
+  return camlheap_map_clean_beside(domain, NULL, map, reply);
+}
+
+/* How many keys a weak map binds, where no other domain writes to it meanwhile: DONE, and INT or type; or why a command of it
+ * isn't taken. Registers as camlheap_map_sweep. */
+static inline uint32_t camlheap_map_count_beside(camlheap_domain *domain, camlheap_bed *bed, uint8_t map, camlheap_reply *reply) {
+  camlheap_walk walk = {domain, bed, CAMLHEAP_DONE, UINT64_MAX, 0, 0, false, false};
+  camlheap_reply told = {CAMLHEAP_INT, 0, 0, 0, 0, 0, 0};
+  camlheap_walk_map(&walk, map, 0, &told);
+  told.value = told.kind == CAMLHEAP_INT ? walk.live : 0;
+  if (walk.told == CAMLHEAP_DONE) *reply = told;
+  return walk.told;
+}
+static inline uint32_t camlheap_map_count(camlheap_domain *domain, uint8_t map, camlheap_reply *reply) {
+  return camlheap_map_count_beside(domain, NULL, map, reply);
+}
+
+/* Makes room for a binding: dead leaves are taken out of pieces of the map of 65,536 fields until a piece had one or all were
+ * looked at, and a complete collection frees them. The first piece begins where the number of the domain's labels says. */
+static inline uint32_t camlheap_map_room_beside(camlheap_domain *domain, camlheap_bed *bed, uint8_t map) {
+  const camlheap_command full = {CAMLHEAP_FULL_MAJOR, 0, 0, 0, 0, 0, 0, 0};
+  camlheap_counts counts;
+  camlheap_reply reply;
+  uint32_t told = camlheap_stats(domain, &counts);
+  if (told != CAMLHEAP_DONE) return told;
+  uint16_t from = (uint16_t)(counts.labels % 512);
+  for (int pieces = 0; pieces < 8; pieces++, from = (uint16_t)((from + 64) % 512)) {
+    camlheap_walk walk = {domain, bed, CAMLHEAP_DONE, 65536, 0, 0, true, false};
+    camlheap_walk_map(&walk, map, from, &reply);
+    if (walk.told != CAMLHEAP_DONE) return walk.told;
+    if (walk.taken) break;
+  }
+  return camlheap_perform_beside(domain, bed, &full, &reply);
+}
+
+/* Puts a binding into a weak map, and asks anew while that helps: behind turns, then behind a MINOR, and then behind a sweep of a
+ * piece of the map and a FULL_MAJOR, which make room for blocks and in the list of ephemerons. What camlheap_map_put answers:
+ * AGAIN or NO_EPHEMERON only where there is still no room, or others have won the field each time. Where it has to make room it
+ * uses registers 8 to 15. A map keeps a leaf for each key that lives, and its blocks. */
 static inline uint32_t camlheap_map_bind_beside(camlheap_domain *domain, camlheap_bed *bed, uint8_t map, uint8_t key, uint8_t item, camlheap_reply *reply) {
-  camlheap_command room = {CAMLHEAP_MINOR, 0, 0, 0, 0, 0, 0, 0};
+  const camlheap_command minor = {CAMLHEAP_MINOR, 0, 0, 0, 0, 0, 0, 0};
   camlheap_reply made;
   for (int rooms = 0;; rooms++) {
     uint32_t told;
-    for (int asked = 0; (told = camlheap_map_put(domain, map, key, item, reply)) == CAMLHEAP_AGAIN && asked < 8; asked++) {
-      uint32_t turned;
-      while ((turned = camlheap_turn(domain)) == CAMLHEAP_AGAIN || turned == CAMLHEAP_WAITING)
-        if (turned == CAMLHEAP_WAITING) camlheap_wait(bed);
+    for (int asked = 0; (told = camlheap_map_put(domain, map, key, item, &made)) == CAMLHEAP_AGAIN && asked < 8; asked++)
+      camlheap_settle_beside(domain, bed);
+    const bool is_full = told == CAMLHEAP_DONE && made.kind == CAMLHEAP_FULL;
+    if ((told != CAMLHEAP_AGAIN && told != CAMLHEAP_NO_EPHEMERON && !is_full) || rooms == 2) {
+      if (told == CAMLHEAP_DONE) *reply = made;
+      return told;
     }
-    if ((told != CAMLHEAP_AGAIN && told != CAMLHEAP_NO_EPHEMERON) || rooms == 2) return told;
-    told = camlheap_perform_beside(domain, bed, &room, &made);
+    told = rooms ? camlheap_map_room_beside(domain, bed, map) : camlheap_perform_beside(domain, bed, &minor, &made);
     if (told != CAMLHEAP_DONE) return told;
-    room.op = CAMLHEAP_FULL_MAJOR;
   }
 }
 static inline uint32_t camlheap_map_bind(camlheap_domain *domain, uint8_t map, uint8_t key, uint8_t item, camlheap_reply *reply) {
@@ -318,22 +557,25 @@ static inline uint32_t camlheap_map_bind(camlheap_domain *domain, uint8_t map, u
 
 /* Waits until the domain that rests in a bed is back. */
 static inline uint32_t camlheap_come_back(camlheap_domain *domain, camlheap_bed *bed) {
+  camlheap_waits waits = camlheap_no_waits();
   uint32_t told;
-  while ((told = camlheap_resume(domain, bed)) == CAMLHEAP_AGAIN) CAMLHEAP_PAUSE();
+  while ((told = camlheap_resume(domain, bed)) == CAMLHEAP_AGAIN) camlheap_wait_on(NULL, &waits);
   return told;
 }
 
 /* Closes a domain, turns it until all have ended, and frees it: ENDED, or why it can't be closed. Until then it takes part
  * in the pauses of the others. Finalisers that wait run in these turns, and nobody hears of them: to hear of them close, turn
- * until ENDED, ask camlheap_ran, and free. */
-static inline uint32_t camlheap_finish(camlheap_domain *domain) {
+ * until ENDED, camlheap_take_ran, and free. */
+static inline uint32_t camlheap_finish_beside(camlheap_domain *domain, camlheap_bed *bed) {
+  camlheap_waits waits = camlheap_no_waits();
   uint32_t told = camlheap_close(domain);
   if (told != CAMLHEAP_DONE && told != CAMLHEAP_CLOSED) return told;
   while ((told = camlheap_turn(domain)) != CAMLHEAP_ENDED && told < CAMLHEAP_NO_DOMAIN)
-    if (told != CAMLHEAP_AGAIN) CAMLHEAP_PAUSE();
+    if (told != CAMLHEAP_AGAIN) camlheap_wait_on(bed, &waits);
   if (told == CAMLHEAP_ENDED) camlheap_free(domain);
   return told;
 }
+static inline uint32_t camlheap_finish(camlheap_domain *domain) { return camlheap_finish_beside(domain, NULL); }
 
 #ifdef __cplusplus
 }

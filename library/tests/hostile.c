@@ -224,14 +224,20 @@ static void stalled(void) {
   for (int i = 0; i < 2; i++) camlheap_free(&two[i]);
 }
 
-/* A handle takes one heap after another: what it held is freed, in whatever state that was. */
+/* A handle takes one heap after another once it is empty, in whatever state the one before was; a full one is left as it is. */
 static void started_over(void) {
-  camlheap_domain domain = {0};
+  camlheap_domain domain = {0}, two[2] = {{0}};
   for (int i = 0; i < 3; i++) {
     CHECK(camlheap_start(&SMALL, &domain, 1) == CAMLHEAP_DONE);
     CHECK(done(&domain, (camlheap_command){.op = CAMLHEAP_ALLOC, .dst = 1, .n = 1}).serial == 1);
+    CHECK(camlheap_start(&SMALL, &domain, 1) == CAMLHEAP_HAS_DOMAIN && shown(&domain, 1).serial == 1);
+    camlheap_move(&domain, &domain);
+    camlheap_move(&two[1], &domain);
+    CHECK(camlheap_start(&(camlheap_config){2, 4096, 64, 2, 2}, two, 2) == CAMLHEAP_HAS_DOMAIN && !two[0].full && shown(&two[1], 1).serial == 1);
+    CHECK(camlheap_start(&(camlheap_config){2, 4096, 0, 2, 2}, two, 2) == CAMLHEAP_HAS_DOMAIN && camlheap_start(&SMALL, two, 1) == CAMLHEAP_DONE);
+    camlheap_move(&domain, &two[1]);
     CHECK(camlheap_submit(&domain, &POLL) == CAMLHEAP_DONE);
-    if (i == 1) camlheap_free(&domain);
+    camlheap_free(&domain), camlheap_free(&two[0]);
   }
   camlheap_free(&domain);
   empty(&domain);

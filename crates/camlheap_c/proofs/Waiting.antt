@@ -1,5 +1,5 @@
 -- Turns of a domain that has a command to make.
-use Rattle.std.proofs.Common.{◌≡◌, ◌<◌, ◌≤◌, ◌∙◌, ℕ, List, length, sym, ap, subst, refl, arith}
+use Rattle.std.proofs.Common.{◌≡◌, ◌<◌, ◌≤◌, ℕ, sym, subst, refl, arith}
 use Rattle.model_core.specs.declared.command.Command as model
 use Rattle.model_core.specs.declared.reply.Reply.{Reply}
 use Rattle.heap_rule.specs.declared.view.DomainView.{DomainView}
@@ -7,8 +7,7 @@ use Rattle.heap_rule.specs.Token.{SharedHeap}
 use Rattle.run_turns.specs.declared.singly.turning.Came.{Came}
 use Rattle.run_turns.specs.declared.singly.turning.Came.TheVariants as came
 use Rattle.run_turns.specs.Singly.Driving.{Answered, Awaits}
-use Rattle.run_seats.specs.Shared.Idling.{StaysAlong}
-use Rattle.run_seats.specs.Shared.Sharing.{MayClose, SharedView}
+use Rattle.run_seats.specs.Shared.Sharing.{SharedView}
 use Rattle.camlheap_c.specs.declared.crossing.CamlheapReply.{CamlheapReply}
 use Rattle.camlheap_c.specs.Exported.{GoesOn}
 use Rattle.camlheap_c.specs.Forms.{came_form, refused_form, reply_form}
@@ -38,10 +37,6 @@ came_below came.On = omega arith
 came_below came.Nowhere = omega arith
 came_below came.Done = omega arith
 came_below came.Ended = omega arith
-
--- a domain without a command to make stays so
-pub may_along : (a b : SharedView) → StaysAlong a b → MayClose a → MayClose b
-may_along a b p may = record { is_open = p.1.supply ∙ may.is_open; done = p.1.next ∙ (may.done ∙ sym (ap (λ (cs : List model.Command). length cs) p.1.commands)) }
 
 -- by a turn's number, it has ended
 pub ends : (x : Came) → came_form x ≡ 4 → x ≡ came.Ended

@@ -80,6 +80,10 @@ config_of c = record { domains = c.domains; minor_words = c.minor_words; pools =
 abbrev pub TellsOutside : CamlheapConfig → ℕ → Type 0
 TellsOutside c told = (k : ℕ) → (told ≡ 32 + k) ↔ (first_outside (config_of c) ≡ Some k)
 
+-- one of the first so many handles holds a domain
+abbrev pub HoldsAny : ℕ → List CamlheapDomain → Type 0
+HoldsAny count handles = (i : ℕ) × (d : CamlheapDomain) × (i < count) × (slice_get handles i ≡ Some d) × (d.full ≡ true)
+
 -- the handle holds this domain
 abbrev pub IsHandleOf : SharedView → CamlheapDomain → Type 0
 IsHandleOf s d = (d.full ≡ true) × (d.value ≡ s)

@@ -6,7 +6,8 @@ use Rattle.camlheap_c.specs.declared.crossing.CamlheapReply.{CamlheapReply}
 use Rattle.camlheap_c.specs.Exported.{GoesOn}
 use Rattle.run_turns.specs.Driving.{goes_further, goes_nowhere}
 use Rattle.run_seats.specs.Shared.Idling.{still_along, stays_along}
-use Rattle.camlheap_c.proofs.Waiting.{came_below, ends, made, may_along, not_done, not_made}
+use Rattle.run_seats.specs.Shared.Leaving.{may_along}
+use Rattle.camlheap_c.proofs.Waiting.{came_below, ends, made, not_done, not_made}
 use Rattle.camlheap_c.proofs.driving.turns_of.Goals as goal
 
 pub returns-in-Some-clause-goes_on : goal.returns-in-Some-clause-goes_on
