@@ -1,5 +1,5 @@
-(* Plays a script of version 1 on OCaml 5's own heap, each section in a domain of its own, and prints the replies as `camlheap run`
-   does. A block of the script is an OCaml block with one field more, which holds its label and its kind; an ephemeron is one whose
+(* Plays scripts of version 1 on OCaml 5's own heap, each section in a domain of its own, and prints the replies as `camlheap run`
+   does: `ocaml5 can`, `ocaml5 run --domains N`. A block of the script is an OCaml block with one field more, which holds its label and its kind; an ephemeron is one whose
    second field is an `Obj.Ephemeron`. What isn't comparable: `Gc.full_major` goes through up to three cycles, and runs finalisers in
    between; a finaliser may run in the middle of a command; a domain that has ended hands its finalisers on, while those of a script
    never run then; no allocation is refused. `live` is counted where there is one domain, and left out where there are more. *)
@@ -184,7 +184,7 @@ let sections lines =
   in
   go [] lines
 
-let () =
+let run () =
   let lines = In_channel.input_all stdin |> String.trim |> String.split_on_char '\n' in
   let parts = sections lines in
   let made = if List.length parts = 1 then Some [] else None in
@@ -193,3 +193,8 @@ let () =
   | [ (d, part) ] -> play d part
   | _ -> List.map (fun (d, part) -> Domain.spawn (fun () -> play d part)) domains |> List.iter Domain.join);
   List.iter (fun (d, _) -> Printf.printf "domain %d\n%s" d.number (Buffer.contents d.out)) domains
+
+let () =
+  match Sys.argv with
+  | [| _; "can" |] -> Printf.printf "name OCaml %s\nversions 1\ndomains 8\nwithout full_major\n" Sys.ocaml_version
+  | _ -> run ()
