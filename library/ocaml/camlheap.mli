@@ -4,7 +4,7 @@
     domain of OCaml at a time calls on a seat. A pause of the collector needs all domains of the heap, so each seat makes
     commands, or takes a {!turn} now and then, until all are {!finish}ed. *)
 
-include module type of struct include Vikheap_types end
+include module type of struct include Camlheap_types end
 
 type seat
 
@@ -18,14 +18,23 @@ val perform : ?pause:(unit -> unit) -> seat -> command -> reply
 (** What a register holds: an integer, a block, or nothing. *)
 val show : seat -> register -> reply
 
-(** The finalisers that have run since the last command was handed in, in order. *)
+(** Has a function be called with the reply [Fin], by whoever calls on this seat, once nothing leads to the block in [item] any more;
+    register [dst] holds it again then. Each registration is called once, behind the call on the seat in which its finaliser ran. What
+    the function raises is reported on standard error. [Done], or [Bad_type] where [item] holds no block. *)
+val finalise : ?pause:(unit -> unit) -> seat -> item:register -> dst:register -> (reply -> unit) -> reply
+
+(** The same with the reply [Last], once the block in [item] is gone for good. *)
+val finalise_last : ?pause:(unit -> unit) -> seat -> item:register -> (reply -> unit) -> reply
+
+(** The finalisers registered by a number of one's own, by the commands {!Finalise} and {!Finalise_last}, that have run and weren't
+    told yet, in order. Numbers below 2{^31} are one's own. None is lost, in whichever call of the seat it ran. *)
 val ran : seat -> reply list
 
 val stats : seat -> stats
 
 (** Weak maps, each in a register: a map keeps neither its keys nor, for a key that nothing else leads to, what the key is bound
     to. It is a block: seats share one through a field, and use it by these calls alone. Registers are below 8; registers 8 to 11
-    are used between. A call may collect where it lacks room, so ask what has [ran] before. *)
+    are used between. A call may collect where it lacks room. *)
 module Weak_map : sig
   (** A new map into a register: its block, or [Full]. *)
   val make : ?pause:(unit -> unit) -> seat -> dst:register -> reply
@@ -49,6 +58,12 @@ val rest : ?pause:(unit -> unit) -> seat -> unit
 
 val resume : ?pause:(unit -> unit) -> seat -> unit
 
-(** No command comes any more. Waits until the other seats are finished too. A seat that the collector of OCaml frees before
-    leaves the others of its heap waiting in their next pause, for ever. *)
+(** No command comes any more. Waits until the other seats are finished or left too. *)
 val finish : ?pause:(unit -> unit) -> seat -> unit
+
+(** No command comes any more, and the seat is left to the others: they turn it to its end where they wait for it. Nobody hears of
+    finalisers that run then. So it is with a seat that OCaml's collector frees. *)
+val leave : seat -> unit
+
+(** What the function answers, or raises; the seat is left behind it. *)
+val with_seat : seat -> (seat -> 'a) -> 'a
