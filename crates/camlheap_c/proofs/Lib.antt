@@ -2,3 +2,4 @@ pub mod Values
 pub mod Bedded
 mod Waiting
 mod Handing
+pub mod RefusedBodies

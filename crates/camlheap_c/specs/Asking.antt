@@ -1,5 +1,5 @@
 -- Why a block is still there, as C is told.
-use Rattle.std.specs.Prelude.{◌≡◌, ◌↔◌, ℕ, ◌<◌, ◌⊎◌, true, false, List, length, slice_get, Some}
+use Rattle.std.specs.Prelude.{◌≡◌, ◌↔◌, ℕ, ◌<◌, ◌≤◌, ◌⊎◌, true, false, List, length, slice_get, Some}
 use Rattle.model_core.specs.declared.label.Label.{Label}
 use Rattle.heap_rule.specs.Limits.{sizes_in}
 use Rattle.model_laws.specs.declared.reach.asking.Reason.{Reason}
@@ -23,10 +23,11 @@ stop_form Memory = 24
 abbrev pub Stops : ℕ → Type 0
 Stops told = (told ≡ 0) ⊎ ((told ≡ 1) ⊎ ((told ≡ 17) ⊎ ((told ≡ 18) ⊎ ((told ≡ 24) ⊎ (told ≡ 26)))))
 
--- the first of these fields stand in C's room, as many as fit
+-- the first of these fields stand in C's room, as many as fit, and what is behind them there is as it was
 pub record Copies (fields old new : List ℕ) : Type 0 where
   pub room : length new ≡ length old
   pub copied : (i n : ℕ) → slice_get fields i ≡ Some n → i < length new → slice_get new i ≡ Some n
+  pub beyond : (i : ℕ) → length fields ≤ i → slice_get new i ≡ slice_get old i
 
 -- what C reads of the answer
 abbrev pub TellsWay : Reason → List ℕ → List ℕ → CamlheapWay → Type 0

@@ -5,6 +5,7 @@ pub returns-in-None-clause-does : goal.returns-in-None-clause-does
 returns-in-None-clause-does c = λ few. record {
   on = record {
     goes_on = record { heap = c.map_get.ensures.keeps.stays.heap; number = c.map_get.ensures.keeps.stays.domain; grows = c.map_get.ensures.reads.grows };
+    none = record { labels = c.map_get.ensures.keeps.labels; room = c.map_get.ensures.keeps.room; written = c.map_get.ensures.reads.written };
     quiet = c.map_get.ensures.reads.quiet;
     follows = c.map_get.ensures.follows;
   };
@@ -17,6 +18,7 @@ pub returns-in-Some-clause-does : goal.returns-in-Some-clause-does
 returns-in-Some-clause-does c = λ few. record {
   on = record {
     goes_on = record { heap = c.map_get.ensures.keeps.stays.heap; number = c.map_get.ensures.keeps.stays.domain; grows = c.map_get.ensures.reads.grows };
+    none = record { labels = c.map_get.ensures.keeps.labels; room = c.map_get.ensures.keeps.room; written = c.map_get.ensures.reads.written };
     quiet = c.map_get.ensures.reads.quiet;
     follows = c.map_get.ensures.follows;
   };
