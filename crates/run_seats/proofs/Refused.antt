@@ -1,5 +1,5 @@
 -- What the clauses of seats refuse.
-use Rattle.std.proofs.Common.{◌≡◌, ◌∙◌, ◌++◌, ℕ, zero, suc, List, [], ◌∷◌, length, ap, sym, subst, drop, Some}
+use Rattle.std.proofs.Common.{◌≡◌, ◌∙◌, ℕ, zero, suc, List, [], ◌∷◌, length, ap, sym, subst, drop, Some}
 use Rattle.std.specs.Prelude.{IsTrue, slice_get}
 use Rattle.std.specs.List.{list_any}
 use Rattle.model_core.specs.declared.entry.Entry.{Entry}

@@ -100,6 +100,7 @@ impl Seat {
         ensures others { self.new ≡ record self.old { ran = drop 1 self.old.ran; finals = self.new.finals } }
         ensures finals { self.new.finals + length self.new.ran ≡ self.old.finals + length self.old.ran }
     {
+        let _left = self.run.finals_left();
         self.run.take_ran()
     }
 

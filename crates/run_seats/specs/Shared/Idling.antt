@@ -1,6 +1,6 @@
 -- A run that has no command to make, and a domain that rests.
 use Rattle.std.specs.Prelude.{◌≡◌, ℕ, ◌+◌, ◌-◌, List, [], ◌++◌, length, refl, None, Some}
-use Rattle.std.proofs.Common.{◌∙◌, sym, ap, subst, append-nil, append_assoc, length-append, arith}
+use Rattle.std.proofs.Common.{◌∙◌, sym, ap, subst, append-nil, append_assoc}
 use Rattle.model_core.specs.declared.reply.Reply.{Reply}
 use Rattle.heap_rule.specs.declared.config.Config.{Config}
 use Rattle.heap_rule.specs.Limits.{sizes_in}

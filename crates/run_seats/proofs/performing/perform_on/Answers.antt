@@ -1,4 +1,4 @@
-use Rattle.std.proofs.Common.{◌≡◌, subst}
+use Rattle.std.proofs.Common.{subst}
 use Rattle.std.specs.Prelude.{Option}
 use Rattle.model_core.specs.declared.reply.Reply.{Reply}
 use Rattle.heap_rule.specs.Limits.{sizes_in}

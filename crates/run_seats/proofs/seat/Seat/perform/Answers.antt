@@ -1,11 +1,9 @@
 use Rattle.std.proofs.Common.{◌≡◌, ◌∙◌, ◌++◌, ◌∷◌, ◌+◌, ◌≤◌, ℕ, [], ap, sym, subst, arith, drop, length}
 use Rattle.model_core.specs.History.{commands, replies}
 use Rattle.heap_rule.specs.Limits.{sizes_in}
-use Rattle.heap_rule.specs.Token.{IsIn}
 use Rattle.model_core.specs.Counts.Counts.{ephemerons_given, labels_given}
-use Rattle.step_finalisers.specs.Registering.{count_of}
 use Rattle.run_turns.specs.Handed.{PerformedOn}
-use Rattle.run_turns.specs.Runs.{RunView, registrations_in}
+use Rattle.run_turns.specs.Runs.{registrations_in}
 use Rattle.run_turns.specs.Tries.{registrations_of}
 use Rattle.run_turns.specs.Singly.Counting.{stats_of}
 use Rattle.run_seats.specs.Pool.Keeping.{KeeperView}

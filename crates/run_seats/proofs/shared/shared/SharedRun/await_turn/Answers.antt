@@ -15,6 +15,12 @@ returns-clause-answers c start command waits =
     subst (λ (h : SharedHeap). AwaitAnswers h start command c.await_turn-told.new.run c.await_turn-told.result.1) heap
     (c.await_turn-told.ensures.answers start command (subst (λ (w : SharedHeap × RunView). Awaits w.0 start command w.1) (λ i. (sym heap i, sym run i)) waits))
 
+pub returns-clause-came : goal.returns-clause-came
+returns-clause-came c =
+    let heap : c.deref.result.now ≡ c.args.self.now.heap = c.deref.ensures ∙ ap (λ (v : SharedView). v.heap) c.self.view_is in
+    let run : c.self.inside.run ≡ c.args.self.now.run = ap (λ (v : SharedView). v.run) c.self.view_is in
+    subst (λ (w : SharedHeap × RunView). CameTo w.0 w.1 c.await_turn-told.new.run c.await_turn-told.result.0) (λ i. (heap i, run i)) c.await_turn-told.ensures.came
+
 pub returns-clause-exact : goal.returns-clause-exact
 returns-clause-exact c other came =
     let heap : c.deref.result.now ≡ c.args.self.now.heap = c.deref.ensures ∙ ap (λ (v : SharedView). v.heap) c.self.view_is in
