@@ -176,6 +176,27 @@ static inline const char *camlheap_says(uint32_t told) {
   }
 }
 
+/* Which field of a command is the reason where it is answered UNFIT: the first that is outside its range, or NULL. */
+static inline const char *camlheap_wrong(const camlheap_command *command) {
+  static const struct { uint32_t dst, a, b; } used = {
+      1u << CAMLHEAP_PUT_INT | 1u << CAMLHEAP_COPY | 1u << CAMLHEAP_FORGET | 1u << CAMLHEAP_ALLOC | 1u << CAMLHEAP_ALLOC_MAJOR | 1u << CAMLHEAP_RAW |
+          1u << CAMLHEAP_LOAD | 1u << CAMLHEAP_CAS | 1u << CAMLHEAP_EPHE | 1u << CAMLHEAP_GET_KEY | 1u << CAMLHEAP_GET_DATA | 1u << CAMLHEAP_FINALISE,
+      1u << CAMLHEAP_COPY | 1u << CAMLHEAP_LOAD | 1u << CAMLHEAP_STORE | 1u << CAMLHEAP_CAS | 1u << CAMLHEAP_SET_KEY | 1u << CAMLHEAP_UNSET_KEY |
+          1u << CAMLHEAP_GET_KEY | 1u << CAMLHEAP_CHECK_KEY | 1u << CAMLHEAP_SET_DATA | 1u << CAMLHEAP_UNSET_DATA | 1u << CAMLHEAP_GET_DATA |
+          1u << CAMLHEAP_CHECK_DATA | 1u << CAMLHEAP_FINALISE | 1u << CAMLHEAP_FINALISE_LAST,
+      1u << CAMLHEAP_STORE | 1u << CAMLHEAP_CAS | 1u << CAMLHEAP_SET_KEY | 1u << CAMLHEAP_SET_DATA};
+  const uint8_t op = command->op;
+  if (op > CAMLHEAP_FINALISE_LAST) return "op";
+  if (used.dst >> op & 1 && command->dst > 15) return "dst";
+  if (used.a >> op & 1 && command->a > 15) return "a";
+  if (used.b >> op & 1 && command->b > 15) return "b";
+  if (op == CAMLHEAP_RAW ? command->tag < 251 : (op == CAMLHEAP_ALLOC || op == CAMLHEAP_ALLOC_MAJOR) && command->tag > 245) return "tag";
+  if (op == CAMLHEAP_EPHE && (command->n < 1 || command->n > 8)) return "n";
+  if (op >= CAMLHEAP_ALLOC && op <= CAMLHEAP_RAW && (command->n < 1 || command->n > 1022)) return "n";
+  if (op == CAMLHEAP_PUT_INT && (command->value < -((int64_t)1 << 62) || command->value >= (int64_t)1 << 62)) return "value";
+  return NULL;
+}
+
 /* Starts a heap, and puts each of its domains into a handle; there are `count`. All memory is taken here. DONE,
  * TOO_FEW_HANDLES, HAS_DOMAIN where one of the handles that are to be filled holds a domain, OUTSIDE + field, or MEMORY; handles
  * are filled only with DONE. */
@@ -234,8 +255,8 @@ uint32_t camlheap_stats(camlheap_domain *domain, camlheap_counts *counts);
  * It is made of loads of this domain into registers 14 and 15, which hold blocks that it came to afterwards: put nothing there
  * that is needed, and camlheap_forget them behind it. A register of another domain, a finaliser and the data of an ephemeron
  * aren't looked through: NOTHING says that the block isn't led to from these registers, and that no ephemeron is, and NO_FIELD
- * the first alone. While other domains make commands it may miss one; where none has made any, and no collection came, the
- * answer is exact.
+ * the first alone. Where no other domain has made a command meanwhile, and no collection came, the answer is exact; beside others
+ * nothing is said of it: a way that it tells may be gone, and it may miss one.
  *
  * It looks into at most `most` blocks. DONE; NO_DOMAIN, CLOSED or BUSY; AGAIN where the domain stands in a pause, one is
  * wanted, or a finaliser waits: take a turn, ask camlheap_ran, since loads begin that anew, and then this again; NO_MORE where
@@ -246,8 +267,8 @@ uint32_t camlheap_why(camlheap_domain *domain, uint32_t maker, uint32_t serial, 
 
 /* Weak maps from blocks to values: a map keeps neither its keys nor, for a key that nothing else leads to, its datum. It is a
  * block, whose register the calls are given, and it may be shared by domains that use it by these calls. Each call is several
- * commands of the domain. Registers are below 8; registers 8 to 11 are used between, and those that were used are emptied as far
- * as that is possible at once.
+ * commands of the domain. Registers are below 8; registers 8 to 11 are used between, and are emptied behind it as far as that is
+ * possible at once, of which no clause speaks: where what they may hold has to go, camlheap_forget them.
  *
  * DONE and the reply; NO_DOMAIN, CLOSED, BUSY, NO_REGISTER for one that isn't below 8, or NO_LABEL, and then nothing has
  * changed; or AGAIN where a pause is wanted or must come first, or others won a field too often: then no binding has changed,
@@ -266,8 +287,8 @@ uint32_t camlheap_map_get(camlheap_domain *domain, uint8_t dst, uint8_t map, uin
  * is full; then nothing has changed. Where `map` holds no map it may be AGAIN each time. camlheap_map_bind below asks anew, and ends. */
 uint32_t camlheap_map_put(camlheap_domain *domain, uint8_t map, uint8_t key, uint8_t item, camlheap_reply *reply);
 
-/* Takes the binding of the block in `key` out: ok, none where there was none, or type. Of two calls that take the same binding
- * one alone answers ok. */
+/* Takes the binding of the block in `key` out: ok, none where there was none, or type. In one history of all domains, of two calls
+ * that take the same binding one alone answers ok. */
 uint32_t camlheap_map_take(camlheap_domain *domain, uint8_t map, uint8_t key, camlheap_reply *reply);
 
 /* No command comes any more: DONE, BUSY or CLOSED. The trace ends in later turns, behind the finalisers that wait. */
@@ -300,7 +321,8 @@ uint32_t camlheap_rest(camlheap_domain *domain, camlheap_bed *bed);
  * of it may have run. DONE, NO_BED, HAS_DOMAIN, BED_EMPTY, or AGAIN where another thread turns it at the moment. */
 uint32_t camlheap_resume(camlheap_domain *domain, camlheap_bed *bed);
 
-/* One turn of a domain that rests in the room, if one can be had at once: AGAIN where it did something, WAITING, or NO_BED. */
+/* One turn of a domain that rests in the room, if one can be had at once: AGAIN where it did something, WAITING, or NO_BED. Which of
+ * the first two is a hint of whether it is worth while to ask again, and no more. */
 uint32_t camlheap_attend(camlheap_bed *bed);
 
 /* What a thread does with its domain before it goes away: the domain is closed, at once or behind the command that it has to
@@ -377,8 +399,9 @@ static inline void camlheap_wait(camlheap_bed *bed) {
   if (!bed || camlheap_attend(bed) != CAMLHEAP_AGAIN) CAMLHEAP_PAUSE();
 }
 
-/* Goes on with a command until it is made, from what the call that began it has answered. Other threads have to turn the
- * other domains, or these rest in the room of the bed; it is NULL where the thread has none. */
+/* Goes on with a command until it is made, from what the call that began it has answered, or from AGAIN where it was handed in
+ * before, as where a wait was interrupted and the next command is BUSY. Other threads have to turn the other domains, or these rest
+ * in the room of the bed; it is NULL where the thread has none. */
 static inline uint32_t camlheap_await_beside(camlheap_domain *domain, camlheap_bed *bed, uint32_t told, camlheap_reply *reply) {
   camlheap_waits waits = camlheap_no_waits();
   while (told == CAMLHEAP_AGAIN || told == CAMLHEAP_WAITING) {
@@ -413,7 +436,7 @@ typedef struct {
   camlheap_domain *domain;
   camlheap_bed *bed;
   uint32_t told;         /* DONE, or why the walk has ended */
-  uint64_t fields;       /* how many fields it may still look at */
+  int64_t most;          /* of how many leaves that have lost their key it has enough */
   int64_t live, taken;   /* leaves that have their key, and such as had lost it and were taken out */
   bool sweeps, cleans;   /* takes dead leaves out; and gives blocks back that hold nothing */
 } camlheap_walk;
@@ -434,8 +457,7 @@ static inline bool camlheap_walk_block(camlheap_walk *walk, uint8_t block, uint8
   const uint8_t value = (uint8_t)(14 - left);
   bool is_empty = true;
   for (uint16_t index = from; index < past && walk->told == CAMLHEAP_DONE; index++) {
-    if (!walk->fields) return false;
-    walk->fields--;
+    if (walk->taken >= walk->most) return false;
     if (camlheap_step(walk, CAMLHEAP_LOAD, value, block, 0, index) != CAMLHEAP_BLOCK) continue;
     const uint32_t key = camlheap_step(walk, CAMLHEAP_GET_KEY, 15, value, 0, 0);
     bool is_spent = key == CAMLHEAP_NONE;
@@ -475,7 +497,7 @@ static inline bool camlheap_walk_map(camlheap_walk *walk, uint8_t map, uint16_t 
  * is taken out by one compare-and-set, and no binding changes. Blocks of the map stay. Registers 8 to 15 are used, and hold
  * nothing behind it. Other domains have to be turned, as for camlheap_perform. */
 static inline uint32_t camlheap_map_sweep_beside(camlheap_domain *domain, camlheap_bed *bed, uint8_t map, camlheap_reply *reply) {
-  camlheap_walk walk = {domain, bed, CAMLHEAP_DONE, UINT64_MAX, 0, 0, true, false};
+  camlheap_walk walk = {domain, bed, CAMLHEAP_DONE, INT64_MAX, 0, 0, true, false};
   camlheap_reply told = {CAMLHEAP_INT, 0, 0, 0, 0, 0, 0};
   camlheap_walk_map(&walk, map, 0, &told);
   told.value = told.kind == CAMLHEAP_INT ? walk.taken : 0;
@@ -489,7 +511,7 @@ static inline uint32_t camlheap_map_sweep(camlheap_domain *domain, uint8_t map, 
 /* The same of a map that no other domain uses meanwhile: its blocks that hold nothing any more are given back too, but for the
  * first. DONE, and yes where the map holds nothing then, or no. */
 static inline uint32_t camlheap_map_clean_beside(camlheap_domain *domain, camlheap_bed *bed, uint8_t map, camlheap_reply *reply) {
-  camlheap_walk walk = {domain, bed, CAMLHEAP_DONE, UINT64_MAX, 0, 0, true, true};
+  camlheap_walk walk = {domain, bed, CAMLHEAP_DONE, INT64_MAX, 0, 0, true, true};
   camlheap_reply told = {CAMLHEAP_NO, 0, 0, 0, 0, 0, 0};
   if (camlheap_walk_map(&walk, map, 0, &told)) told.kind = CAMLHEAP_YES;
   if (walk.told == CAMLHEAP_DONE) *reply = told;
@@ -502,7 +524,7 @@ static inline uint32_t camlheap_map_clean(camlheap_domain *domain, uint8_t map, 
 /* How many keys a weak map binds, where no other domain writes to it meanwhile: DONE, and INT or type; or why a command of it
  * isn't taken. Registers as camlheap_map_sweep. */
 static inline uint32_t camlheap_map_count_beside(camlheap_domain *domain, camlheap_bed *bed, uint8_t map, camlheap_reply *reply) {
-  camlheap_walk walk = {domain, bed, CAMLHEAP_DONE, UINT64_MAX, 0, 0, false, false};
+  camlheap_walk walk = {domain, bed, CAMLHEAP_DONE, INT64_MAX, 0, 0, false, false};
   camlheap_reply told = {CAMLHEAP_INT, 0, 0, 0, 0, 0, 0};
   camlheap_walk_map(&walk, map, 0, &told);
   told.value = told.kind == CAMLHEAP_INT ? walk.live : 0;
@@ -513,22 +535,17 @@ static inline uint32_t camlheap_map_count(camlheap_domain *domain, uint8_t map, 
   return camlheap_map_count_beside(domain, NULL, map, reply);
 }
 
-/* Makes room for a binding: dead leaves are taken out of pieces of the map of 65,536 fields until a piece had one or all were
- * looked at, and a complete collection frees them. The first piece begins where the number of the domain's labels says. */
+/* Makes room for a binding: takes dead leaves out, as many as a quarter of the domain's ephemerons or all that there are, from the
+ * field of the map on that the number of the domain's labels tells, and then has them freed by a complete collection. */
 static inline uint32_t camlheap_map_room_beside(camlheap_domain *domain, camlheap_bed *bed, uint8_t map) {
   const camlheap_command full = {CAMLHEAP_FULL_MAJOR, 0, 0, 0, 0, 0, 0, 0};
   camlheap_counts counts;
   camlheap_reply reply;
-  uint32_t told = camlheap_stats(domain, &counts);
+  const uint32_t told = camlheap_stats(domain, &counts);
   if (told != CAMLHEAP_DONE) return told;
-  uint16_t from = (uint16_t)(counts.labels % 512);
-  for (int pieces = 0; pieces < 8; pieces++, from = (uint16_t)((from + 64) % 512)) {
-    camlheap_walk walk = {domain, bed, CAMLHEAP_DONE, 65536, 0, 0, true, false};
-    camlheap_walk_map(&walk, map, from, &reply);
-    if (walk.told != CAMLHEAP_DONE) return walk.told;
-    if (walk.taken) break;
-  }
-  return camlheap_perform_beside(domain, bed, &full, &reply);
+  camlheap_walk walk = {domain, bed, CAMLHEAP_DONE, (int64_t)(counts.ephemerons / 4 + 1), 0, 0, true, false};
+  camlheap_walk_map(&walk, map, (uint16_t)(counts.labels % 512), &reply);
+  return walk.told == CAMLHEAP_DONE ? camlheap_perform_beside(domain, bed, &full, &reply) : walk.told;
 }
 
 /* Puts a binding into a weak map, and asks anew while that helps: behind turns, then behind a MINOR, and then behind a sweep of a

@@ -109,7 +109,7 @@ static void refuses_maps(camlheap_domain *domain, uint32_t told) {
 static void refuses(camlheap_domain *domain, uint32_t told) {
   camlheap_reply reply = UNTOUCHED;
   for (int i = 0; i < UNFITS; i++) CHECK(camlheap_submit(domain, &UNFIT[i]) == told && called(domain, UNFIT[i]) == told);
-  for (int i = 0; i < UNFITS; i++) CHECK(own_call(domain, &UNFIT[i], &reply) == told && is_untouched(&reply));
+  for (int i = 0; i < UNFITS; i++) CHECK(own_call(domain, &UNFIT[i], &reply) == told && is_untouched(&reply) && camlheap_wrong(&UNFIT[i]));
   for (uint8_t op = 0; told != CAMLHEAP_UNFIT && op < 24; op++)
     CHECK(own_call(domain, &(camlheap_command){.op = op, .n = 1, .tag = 251}, &reply) == told && is_untouched(&reply));
   camlheap_way way = {.kind = 77};
@@ -272,6 +272,7 @@ static void random_commands(int count) {
     while (told == CAMLHEAP_AGAIN) told = camlheap_run(&general, 64, &replies[0]);
     while (by_own == CAMLHEAP_AGAIN) by_own = camlheap_run(&own, 64, &replies[1]);
     CHECK(told == CAMLHEAP_DONE ? replies[0].kind <= CAMLHEAP_LAST : told >= CAMLHEAP_UNFIT && told <= CAMLHEAP_NO_FINALISER);
+    CHECK((told == CAMLHEAP_UNFIT) == (camlheap_wrong(&command) != NULL));
     CHECK(told == by_own && memcmp(&replies[0], &replies[1], sizeof replies[0]) == 0);
   }
   CHECK(camlheap_finish(&general) == CAMLHEAP_ENDED && camlheap_finish(&own) == CAMLHEAP_ENDED);

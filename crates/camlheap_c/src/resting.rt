@@ -244,7 +244,11 @@ fn leave_in(alloc: Global, domain: &mut CamlheapDomain, bed: &mut CamlheapBed) -
         Ok(()) => DONE,
         Err((run, why)) => {
             *domain = CamlheapDomain::of(run);
-            if why == NotRested::Taken { BED_FULL } else { AGAIN }
+            if why == NotRested::Taken {
+                BED_FULL
+            } else {
+                AGAIN
+            }
         }
     }
 }

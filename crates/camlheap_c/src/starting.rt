@@ -1,5 +1,5 @@
 //! The start and the end of a heap, as C calls them.
-ghost use Rattle.std.specs.Prelude.{◌≡◌, ◌≢◌, ◌↔◌, ◌<◌, ◌≤◌, IfOk, false, length, map};
+ghost use Rattle.std.specs.Prelude.{◌≡◌, ◌≢◌, ◌↔◌, ◌<◌, ◌≤◌, IfOk, false, true, length, map};
 ghost use Rattle.camlheap_c.specs.Exported.{Fills, HoldsAny, Starts, TellsOutside};
 
 use crate::codes::{DONE, HAS_DOMAIN, MEMORY, TOO_FEW_HANDLES, outside_code};

@@ -5,5 +5,5 @@ use Rattle.camlheap_c.proofs.starting.is_any_full.Given as goal
 abbrev pub invariant-handles : goal.invariant-handles
 invariant-handles l = record {
   same : l.handles ≡ l.initial.handles;
-  none : (i : ℕ) (d : CamlheapDomain) → i < l.handles-2.start → slice_get l.handles i ≡ Some d → d.full ≡ false;
+  none : (i : ℕ) (d : CamlheapDomain) → i < l.at → slice_get l.handles i ≡ Some d → d.full ≡ false;
 }
