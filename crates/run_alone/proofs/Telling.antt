@@ -79,8 +79,8 @@ tells_seen h r history here begins = record {
 pub tells_halted : (h : SharedHeap) (r : RunView) → IsIn (halted r).token h → Tells h r (halted r)
 tells_halted h r here = record {
   answers = λ start command w. awaits_turn h start command r (halted r) w here
-    (ByOthers (record { next = refl; replies = refl; ran = refl; ended = refl; front = front_whole r.token.view.own.number r.token.view.seen.front; listed = refl; takes = takes_none _ _ refl refl }))
-    (record { commands = refl; supply = refl; spawned = refl; number = refl; front = front_prefix _ _ _ (front_whole r.token.view.own.number r.token.view.seen.front); over = λ ended. record { ended = ended; next = refl; replies = refl } });
+      (ByOthers (record { next = refl; replies = refl; ran = refl; ended = refl; front = front_whole r.token.view.own.number r.token.view.seen.front; listed = refl; takes = takes_none _ _ refl refl }))
+      (record { commands = refl; supply = refl; spawned = refl; number = refl; front = front_prefix _ _ _ (front_whole r.token.view.own.number r.token.view.seen.front); over = λ ended. record { ended = ended; next = refl; replies = refl } });
   ran = adds_nothing (sizes_in h.config) r (halted r) refl refl (front_whole r.token.view.own.number r.token.view.seen.front);
 }
 

@@ -1,5 +1,5 @@
 -- The run of a session, as it makes a command and as its trace ends.
-use Rattle.std.proofs.Common.{drop, List, ◌≡◌, ◌≢◌, ◌∙◌, ℕ, ◌+◌, ◌*◌, ◌<◌, ◌≤◌, ◌-◌, ◌^◌, ◌++◌, ◌∷◌, [], Option, Some, None, length, length-append, refl, sym, ap, subst, arith}
+use Rattle.std.proofs.Common.{append-nil, drop, List, ◌≡◌, ◌≢◌, ◌∙◌, ℕ, ◌+◌, ◌*◌, ◌<◌, ◌≤◌, ◌-◌, ◌^◌, ◌++◌, ◌∷◌, [], Option, Some, None, length, length-append, refl, sym, ap, subst, arith}
 use Rattle.model_core.specs.declared.command.Command as model
 use Rattle.model_core.specs.declared.entry.Entry.{Entry}
 use Rattle.model_core.specs.declared.reply.Reply.{Reply}
@@ -10,10 +10,16 @@ use Rattle.model_core.specs.History.{Legal}
 use Rattle.heap_rule.specs.declared.config.Config.{Config}
 use Rattle.heap_rule.specs.Limits.{sizes_in}
 use Rattle.heap_rule.specs.Token.{SharedHeap, IsIn}
-use Rattle.run_turns.specs.Handed.{PerformedOn}
+use Rattle.run_turns.specs.Handed.{Finalised, PerformedOn}
 use Rattle.run_turns.specs.declared.supply.Supply.{Supply}
 use Rattle.run_turns.specs.declared.supply.Supply.TheVariants.{Open, Closed}
-use Rattle.run_turns.proofs.Adding.{adds_on, performed_adds}
+use Rattle.std.proofs.lemmas.List.{append_cancel_left}
+use Rattle.model_core.specs.declared.entry.Entry.TheVariants.{End}
+use Rattle.model_core.specs.Domains.{opening}
+use Rattle.model_core.proofs.Histories.FrontLemmas.{front_whole}
+use Rattle.run_turns.specs.Kept.{finalised, is_run_of}
+use Rattle.run_turns.proofs.Kept.{replies_to-append}
+use Rattle.run_turns.proofs.Adding.{adds_nothing, adds_on, finalised_tells, performed_adds}
 use Rattle.run_turns.proofs.OfSingly.Driven.{open_handed}
 use Rattle.run_turns.proofs.Turning.{apart_few}
 use Rattle.run_turns.specs.Runs.{AddsRan, HasLabels, HasLooked, IsRun, MaySubmit, RunView, labels_in, registrations_in}
@@ -29,6 +35,7 @@ use Rattle.run_alone.proofs.Served.{lone_looked}
 use Rattle.run_alone.proofs.Walking.{zeroth}
 use Rattle.run_session.proofs.Labels.{made_labels}
 use Rattle.run_session.specs.Driving.{Finishes, HasGivenOut, Makes, Rests, RestsIn, session_of}
+use Rattle.run_session.specs.Stopping.{EndedView, EndsIn}
 use Rattle.run_session.specs.Sessions.{MayPerform, PerformsIn, SessionView, most_arrivals, most_spent, ran_since, taken}
 
 -- what stands behind a list
@@ -199,7 +206,7 @@ finishes_makes h old mid o p c reply was w adds last f =
     }
 
 -- a run that rests comes back, gets no more, and ends
-pub stopped : (h : SharedHeap) (o : Option RunView) (r s t u : RunView) → RestsIn h o → o ≡ Some r → ComesBack h r s → t ≡ record s { supply = Closed } → ((front : List Entry) → Idles h front t → Over h front u) → Over h r.token.view.seen.front u
+stopped : (h : SharedHeap) (o : Option RunView) (r s t u : RunView) → RestsIn h o → o ≡ Some r → ComesBack h r s → t ≡ record s { supply = Closed } → ((front : List Entry) → Idles h front t → Over h front u) → Over h r.token.view.seen.front u
 stopped h o r s t u i there back closed over =
     let rests = rests_as h o r i there in
     let front : List Entry = r.token.view.seen.front in
@@ -224,3 +231,27 @@ rests_taken h r s rests same is = record {
   few = subst (λ (v : RunView). last_of h.config v < 2 ^ 60) (sym same) rests.few;
 }
 
+-- what the end of a trace adds to what waits
+ended_adds : (z : Sizes) (old new : RunView) (before : List Entry) (ran : List Reply) → old.token.view.own.number ≡ 0 → Finalised z 0 old.token.view.seen.front before ran → new.token.view.seen.front ≡ before ++ End 0 ∷ [] → AddsRan z old new → new.ran ≡ old.ran ++ ran
+ended_adds z old new before ran number f is a =
+    let was : List Entry = old.token.view.seen.front in
+    let now : List Entry = new.token.view.seen.front in
+    let tells : finalised z now 0 ≡ finalised z was 0 ++ ran = ap (λ (h : List Entry). finalised z h 0) is ∙ (replies_to-append (is_run_of 0) (opening z) before (End 0 ∷ []) ∙ (append-nil (finalised z before 0) ∙ finalised_tells z 0 was before ran f)) in
+    let told : finalised z now 0 ≡ finalised z was 0 ++ a.more = subst (λ (d : ℕ). finalised z now d ≡ finalised z was d ++ a.more) number a.told in
+    a.waits ∙ ap (λ (rs : List Reply). old.ran ++ rs) (append_cancel_left (finalised z was 0) a.more ran (sym told ∙ tells))
+
+-- so a session ends
+pub ends_in : (h : SharedHeap) (o : Option RunView) (r s t u : RunView) (e : EndedView) → RestsIn h o → o ≡ Some r → ComesBack h r s → t ≡ record s { supply = Closed } → ((front : List Entry) → Idles h front t → Over h front u) → AddsRan (sizes_in h.config) t u → e.config ≡ h.config → e.front ≡ u.token.view.seen.front → e.ran ≡ u.ran → EndsIn (session_of h.config (Some r)) e
+ends_in h o r s t u e i there back closed over adds config front ran =
+    let z : Sizes = sizes_in h.config in
+    let end : Over h r.token.view.seen.front u = stopped h o r s t u i there back closed over in
+    let shut : AddsRan z s t = subst (λ (x : RunView). AddsRan z s x) (sym closed) (adds_nothing z s (record s { supply = Closed }) refl refl (front_whole s.token.view.own.number s.token.view.seen.front)) in
+    let whole : AddsRan z r u = adds_on z r s u back.tells.ran (adds_on z s t u shut adds) in record {
+      config = config;
+      before = end.before;
+      ran = end.ran;
+      finalised = end.finalised;
+      front = front ∙ end.front;
+      waits = ran ∙ ended_adds z r u end.before end.ran (zeroth h r (rests_as h o r i there).lone) end.finalised end.front whole;
+      none = end.none;
+    }
