@@ -32,7 +32,7 @@ returns-clause-tells g c =
     let history = c.stop.result.history in
     let inside : SeatsView = record { heap = c.self.inside.heap; pool = c.self.inside.pool } in
     let each = tells_each inside history c.args.seats.items c.close_all.result.items c.drive_alone-ended.result.items (subst (λ (v : SeatsView). AllSeatsOf v c.args.seats.items) (sym c.self.view_is) c.requires.here) c.close_all.ensures c.drive_alone-ended.ensures.driven
-        (subst (λ (ts : List Token). AllBegin history ts) c.in_ok-domains.ensures.domains c.stop.ensures.fronts) in
+    (subst (λ (ts : List Token). AllBegin history ts) c.in_ok-domains.ensures.domains c.stop.ensures.fronts) in
     subst (λ (w : Sizes × List (List Reply)). TellsEach w.0 history c.args.seats.items w.1) (λ i. (sym c.stop.ensures.sizes i, sym c.in_ok-domains.ensures.ran i)) each
 
 pub stop-requires-clause-here : goal.stop-requires-clause-here
