@@ -31,7 +31,6 @@ use Rattle.run_alone.specs.Lone.{AsksOnce, ComesBack, Wants}
 use Rattle.run_alone.proofs.Idling.{idles_closed, idles_now}
 use Rattle.run_alone.specs.Paces.{IsPaced, last_of, most_in_pause}
 use Rattle.run_alone.proofs.Paces.{last_high}
-use Rattle.run_alone.proofs.Served.{lone_looked}
 use Rattle.run_alone.proofs.Walking.{zeroth}
 use Rattle.run_session.proofs.Labels.{made_labels}
 use Rattle.run_session.specs.Driving.{Finishes, HasGivenOut, Makes, Rests, RestsIn, session_of}
