@@ -3,7 +3,7 @@
 #include "check.h"
 #include <pthread.h>
 
-enum { MOST = 6, ROUNDS = 40 };
+enum { MOST = 6, ROUNDS = 12 };
 
 typedef struct { camlheap_domain domain; camlheap_bed bed; int me, rounds; bool is_busy, is_closed; } seat;
 static seat seats[MOST];

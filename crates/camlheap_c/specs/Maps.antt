@@ -6,6 +6,7 @@ use Rattle.model_core.specs.declared.state.Sizes.{Sizes}
 use Rattle.model_core.specs.Fronts.{IsFrontOf}
 use Rattle.model_core.specs.History.{IsPrefix}
 use Rattle.heap_rule.specs.Limits.{sizes_in}
+use Rattle.run_turns.specs.Singly.Driving.{registered}
 use Rattle.run_seats.specs.Shared.Sharing.{MayClose, SharedView}
 use Rattle.weak_laws.specs.Tables.Performing.{is_spared}
 use Rattle.weak_maps.specs.Beside.{WritesAtMost}
@@ -37,11 +38,14 @@ labels_left s = 4294967295 - s.run.token.view.own.serial
 abbrev pub room_left : SharedView → ℕ
 room_left s = s.run.token.view.own.ephemerons.room
 
--- the domain is the same, in the same heap, and has seen more of the history
+-- the domain is the same, in the same heap, and has seen more of the history. It waits for its next command as it did; what waits to be taken of its finalisers, and how many are registered, is the same
 pub record GoesOnIn (old new : SharedView) : Type 0 where
   pub heap : new.heap ≡ old.heap
   pub number : number_of new ≡ number_of old
   pub grows : IsPrefix (front_of old) (front_of new)
+  pub ready : MayClose old → MayClose new
+  pub ran : new.run.ran ≡ old.run.ran
+  pub unregistered : registered new.run ≡ registered old.run
 
 -- no label was given out and no ephemeron made, and at most so many of the domain's entries since write a register from 1 to 7
 pub record MakesNoBlock (old new : SharedView) (writes : ℕ) : Type 0 where

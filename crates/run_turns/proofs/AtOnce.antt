@@ -61,16 +61,16 @@ open_acts h r here is more left unqueued =
 -- a run that made a command and forgot it
 pub cleared_is_run : (h : SharedHeap) (r : RunView) (new : Token) (c : model.Command) (reply : Reply) → IsRun r → MaySubmit r c → r.left ≡ None → Tried h r.token new c false reply → (NeedsPause h.config r.token.view.own false c → ⊥) → IsRun (cleared r new)
 cleared_is_run h r new c reply is may left t ready =
-    let handed : RunView = record r { commands = c ∷ []; next = 0; replies = []; ran = []; asked = None; collected = false } in
+    let handed : RunView = record r { commands = c ∷ []; next = 0; replies = []; asked = None; collected = false } in
     let has : IsRun handed = submitted_is_run r c is may in
     let made = tried_is_run h handed new c reply r.token.view.own false has (open_running r is may.more) left refl (open_going r is may.more) (fits_is_ordinary c may.fits) t ready in
     emptied_is_run (record handed { token = new; next = 0 + 1; replies = [] ++ reply ∷ []; asked = None; collected = false; due = 0 }) made may.more
 
 -- there is room for a finaliser that it registers
-pub submits_enlists : (h : SharedHeap) (r : RunView) (c : model.Command) → IsIn r.token h → MaySubmit r c → registrations_of c + count_of r.token.view.own.finalisers ≤ h.config.finals
-submits_enlists h r c here may =
+pub submits_enlists : (h : SharedHeap) (r : RunView) (c : model.Command) → IsIn r.token h → IsRun r → MaySubmit r c → registrations_of c + count_of r.token.view.own.finalisers ≤ h.config.finals
+submits_enlists h r c here is may =
     let fits = may.enlists in
-    let same : r.token.config.finals ≡ h.config.finals = ap (λ (k : Config). k.finals) here.1 in
+    let same : r.spare ≡ h.config.finals = is.spares ∙ ap (λ (k : Config). k.finals) here.1 in
     omega (arith, fits, same)
 
 pub no_items : {A : Type 0} (xs : List A) → length xs ≡ 0 → xs ≡ []

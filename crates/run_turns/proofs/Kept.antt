@@ -29,7 +29,7 @@ replies_to-append p s (e ∷ h) k =
     ∙ sym (append_assoc (cond (p e) (reply_list (reply s e)) []) (replies_to p (next s e) h) (replies_to p (state_after s (e ∷ h)) k))
 
 -- only entries of domain d are picked
-abbrev PicksOf : ℕ → (Entry → Bool) → Type 0
+abbrev pub PicksOf : ℕ → (Entry → Bool) → Type 0
 PicksOf d p = (e : Entry) → is_entry_of d e ≡ false → p e ≡ false
 
 pub picks_commands : (d : ℕ) → PicksOf d (is_command_of d)
@@ -95,7 +95,7 @@ module _ (z : Sizes) (d : ℕ) (old new : List Entry) (c : model.Command) (full 
   one_answer : answers z new d ≡ answers z old d ++ r ∷ []
   one_answer = picked_after d (is_command_of d) (picks_commands d) z old new (Command d c full) (Replied r) x ∙ ap (λ t. answers z old d ++ t) (same_domain d r)
 
-  none_ran : finalised z new d ≡ finalised z old d
+  pub none_ran : finalised z new d ≡ finalised z old d
   none_ran = picked_after d (is_run_of d) (picks_runs d) z old new (Command d c full) (Replied r) x ∙ append-nil (finalised z old d)
 
   pub kept_answer : (s : Supply) (said ran : List Reply) → AreKept s z old d said ran → AreKept s z new d (said ++ r ∷ []) ran

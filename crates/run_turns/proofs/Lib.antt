@@ -26,4 +26,5 @@ pub mod Refused
 pub mod MeetingLemmas
 pub mod Passed
 pub mod Bringing
+pub mod Adding
 pub mod OfSingly

@@ -3,3 +3,4 @@ pub mod Finalising
 pub mod Refused
 pub mod Starts
 pub mod Begun
+pub mod Turned

@@ -5,6 +5,8 @@ use Rattle.model_core.proofs.OfCounts.Few.{one_label}
 use Rattle.run_turns.specs.declared.supply.Supply.{Supply}
 use Rattle.run_turns.specs.declared.supply.Supply.TheVariants.{Listed, Section, Open, Closed}
 use Rattle.model_core.specs.declared.reply.Reply.{Reply}
+use Rattle.model_core.specs.declared.entry.Entry.{Entry}
+use Rattle.model_core.specs.declared.state.Sizes.{Sizes}
 use Rattle.model_core.specs.History.{commands}
 use Rattle.heap_rule.specs.Limits.{sizes_in}
 use Rattle.step_finalisers.specs.Registering.{count_of}
@@ -132,9 +134,9 @@ closed_is_run r is more done =
       spares = is.spares;
     }
 
--- an open run that forgets what was handed in before, and has these commands now
-pub handed_is_run : (r : RunView) (cs : List model.Command) → IsRun r → r.supply ≡ Open → length cs ≤ 1 → AllFitIn Open cs → count_of r.token.view.own.finalisers + registrations_in cs ≤ r.token.config.finals → ephemerons_in cs ≤ r.token.view.own.ephemerons.room → r.token.view.own.serial + labels_in cs < 2 ^ 32
-    → IsRun (record r { commands = cs; next = 0; replies = []; ran = []; asked = None; collected = false })
+-- an open run that forgets the command that was handed in before, and has these now
+pub handed_is_run : (r : RunView) (cs : List model.Command) → IsRun r → r.supply ≡ Open → length cs ≤ 1 → AllFitIn Open cs → length r.ran + (count_of r.token.view.own.finalisers + registrations_in cs) ≤ r.spare → ephemerons_in cs ≤ r.token.view.own.ephemerons.room → r.token.view.own.serial + labels_in cs < 2 ^ 32
+    → IsRun (record r { commands = cs; next = 0; replies = []; asked = None; collected = false })
 handed_is_run r cs is more one fit enlists room labels =
     let handed : IsHandedIn r.supply = subst IsHandedIn (sym more) tt in
     let other : r.supply ≢ Section = λ section. let clash : Open ≡ Section = sym more ∙ section in cc in
@@ -144,18 +146,19 @@ handed_is_run r cs is more one fit enlists room labels =
     let b = is.between in
     let here : List model.Command = commands r.token.view.seen.front r.token.view.own.number in
     let said : List Reply = answers (sizes_in r.token.config) r.token.view.seen.front r.token.view.own.number in
-    let ran : List Reply = finalised (sizes_in r.token.config) r.token.view.seen.front r.token.view.own.number in
+    let kept = subst (λ (s : Supply). AreKept s (sizes_in r.token.config) r.token.view.seen.front r.token.view.own.number r.replies r.ran) more is.answered in
+    let waiting : ℕ = length r.ran in
     let never : r.ended ≡ true → ⊥ = λ ended. is.shut ended more in
     record {
       inside = is.inside;
       made = subst (λ (s : Supply). EndsIn s here []) (sym more) (here, sym (append-nil here));
-      answered = subst (λ (s : Supply). AreKept s (sizes_in r.token.config) r.token.view.seen.front r.token.view.own.number [] []) (sym more) ((said, sym (append-nil said)), (ran, sym (append-nil ran)));
-      replied = subst (λ (s : Supply). 0 + 0 + (count + registers) ≤ 0 + most_ran s registers r.spare) (sym more) (let all : 0 + 0 + (count + registers) ≤ 0 + r.spare = omega (arith, enlists, spares) in all);
+      answered = subst (λ (s : Supply). AreKept s (sizes_in r.token.config) r.token.view.seen.front r.token.view.own.number [] r.ran) (sym more) ((said, sym (append-nil said)), kept.1);
+      replied = subst (λ (s : Supply). 0 + waiting + (count + registers) ≤ 0 + most_ran s registers r.spare) (sym more) (let all : 0 + waiting + (count + registers) ≤ 0 + r.spare = omega (arith, enlists) in all);
       within = omega arith;
       few = omega (arith, one);
       fit = subst (λ (s : Supply). AllFitIn s cs) (sym more) fit;
       room = room;
-      enlists = enlists;
+      enlists = omega (arith, enlists, spares);
       idle = is.idle;
       at_rest = is.at_rest;
       goes_on = is.goes_on;
@@ -184,7 +187,7 @@ handed_is_run r cs is more one fit enlists room labels =
     }
 
 -- it has its next command
-pub submitted_is_run : (r : RunView) (c : model.Command) → IsRun r → MaySubmit r c → IsRun (record r { commands = c ∷ []; next = 0; replies = []; ran = []; asked = None; collected = false })
+pub submitted_is_run : (r : RunView) (c : model.Command) → IsRun r → MaySubmit r c → IsRun (record r { commands = c ∷ []; next = 0; replies = []; asked = None; collected = false })
 submitted_is_run r c is may =
     let listed = may.enlists in
     let room = may.room in
@@ -192,10 +195,60 @@ submitted_is_run r c is may =
     handed_is_run r (c ∷ []) is may.more (omega arith) (fits_one c may.fits) (omega (arith, listed)) (omega (arith, room)) (omega (arith, few))
 
 -- or none
-pub emptied_is_run : (r : RunView) → IsRun r → r.supply ≡ Open → IsRun (record r { commands = []; next = 0; replies = []; ran = []; asked = None; collected = false })
+pub emptied_is_run : (r : RunView) → IsRun r → r.supply ≡ Open → IsRun (record r { commands = []; next = 0; replies = []; asked = None; collected = false })
 emptied_is_run r is more =
-    let listed = is.enlists in
+    let replied : length r.replies + length r.ran + (count_of r.token.view.own.finalisers + registrations_in (drop r.next r.commands)) ≤ r.next + r.spare = subst (λ (s : Supply). length r.replies + length r.ran + (count_of r.token.view.own.finalisers + registrations_in (drop r.next r.commands)) ≤ r.next + most_ran s (registrations_in r.commands) r.spare) more is.replied in
+    let answered : length r.replies ≡ r.next = (is.one (subst IsHandedIn (sym more) tt)).answered in
     let rest : ℕ = registrations_in (drop r.next r.commands) in
     let few : HasLabels Open r.token.view.own.serial r.next r.commands = subst (λ (s : Supply). HasLabels s r.token.view.own.serial r.next r.commands) more is.labels in
     let labels : ℕ = labels_in (drop r.next r.commands) in
-    handed_is_run r [] is more (omega arith) (λ i c at. cc) (omega (arith, listed)) (omega arith) (omega (arith, few))
+    handed_is_run r [] is more (omega arith) (λ i c at. cc) (omega (arith, replied, answered)) (omega arith) (omega (arith, few))
+
+rest_ends : {A : Type 0} (whole waits : List A) → (past : List A) × (whole ≡ past ++ waits) → (past : List A) × (whole ≡ past ++ drop 1 waits)
+rest_ends whole [] is = is
+rest_ends whole (x ∷ xs) is = (is.0 ++ x ∷ [], is.1 ∙ sym (append_assoc is.0 (x ∷ []) xs))
+
+kept_rest : (s : Supply) (z : Sizes) (front : List Entry) (d : ℕ) (said ran : List Reply) → AreKept s z front d said ran → AreKept s z front d said (drop 1 ran)
+kept_rest Listed z front d said ran is = (is.0, ap (drop 1) is.1)
+kept_rest Section z front d said ran is = ap (drop 1) is
+kept_rest Open z front d said ran is = (is.0, rest_ends (finalised z front d) ran is.1)
+kept_rest Closed z front d said ran is = (is.0, rest_ends (finalised z front d) ran is.1)
+
+rest_short : {A : Type 0} (xs : List A) → length (drop 1 xs) ≤ length xs
+rest_short [] = omega arith
+rest_short (x ∷ xs) = omega arith
+
+-- a run whose oldest reply of a finaliser was taken
+pub taken_is_run : (r : RunView) → IsRun r → IsRun (record r { ran = drop 1 r.ran })
+taken_is_run r is =
+    let fewer = rest_short r.ran in
+    let count : ℕ = count_of r.token.view.own.finalisers + registrations_in (drop r.next r.commands) in
+    let most : ℕ = most_ran r.supply (registrations_in r.commands) r.spare in
+    let replied : length r.replies + length r.ran + count ≤ r.next + most = is.replied in
+    record {
+      inside = is.inside;
+      made = is.made;
+      answered = kept_rest r.supply (sizes_in r.token.config) r.token.view.seen.front r.token.view.own.number r.replies r.ran is.answered;
+      replied = let all : length r.replies + length (drop 1 r.ran) + count ≤ r.next + most = omega (arith, replied, fewer) in all;
+      within = is.within;
+      few = is.few;
+      fit = is.fit;
+      room = is.room;
+      enlists = is.enlists;
+      idle = is.idle;
+      at_rest = is.at_rest;
+      goes_on = is.goes_on;
+      owes = is.owes;
+      between = is.between;
+      labels = is.labels;
+      deck = is.deck;
+      done = is.done;
+      over = is.over;
+      shut = is.shut;
+      one = λ handed. let held = is.one handed in record { one = held.one; answered = held.answered };
+      section = is.section;
+      as_ever = is.as_ever;
+      unasked = is.unasked;
+      told = is.told;
+      spares = is.spares;
+    }

@@ -24,6 +24,7 @@ use Rattle.heap_rule.specs.declared.phase.Note.{Note}
 use Rattle.heap_rule.specs.declared.phase.Note.TheVariants.{Want, Asked, Barrier, Ended}
 use Rattle.heap_rule.specs.Phases.{IsEven, IsOdd, Comes}
 use Rattle.heap_rule.specs.Copies.{nothing_copied}
+use Rattle.heap_words.specs.Remembered.Bounded.{Bounded}
 use Rattle.heap_rule.specs.Running.{ChangesRegisters, RemembersAll}
 use Rattle.step_pauses.specs.Pauses.{arrived_view, ended_own, IsModeOf}
 use Rattle.do_fields.specs.Darkening.Aware.{Learnt, darkened_in, scanned_in, vain_in}
@@ -65,7 +66,7 @@ use Rattle.run_turns.specs.Pausing.{HasNothingPending, HasLeft, KnowsProgress, L
 use Rattle.run_turns.specs.Kept.{answers, finalised}
 use Rattle.run_turns.specs.Tries.{FitsHeap, IsFresh, NeedsPause, Refused, Tried, ephemerons_given, ephemerons_of, labels_given, labels_of, registrations_of, wish_of}
 
--- a run: the domain's token, its commands, the place of the next one, its replies, whether its trace has ended, where the domain has arrived from which kind of phase, how often it had arrived when it asked for a pause for the next command, whether the last pause since then was a complete collection that left so many blocks that they may use up the pools, how far, for domain 0, a collection has come, how many finalisers the domain owes before its next `full_major`, what its deck of hints has counted, where its commands come from, how far it has come in its section, how many finalisers the domain has room for, and, where commands are handed in, the replies of those that have run since the last one was
+-- a run: the domain's token, its commands, the place of the next one, its replies, whether its trace has ended, where the domain has arrived from which kind of phase, how often it had arrived when it asked for a pause for the next command, whether the last pause since then was a complete collection that left so many blocks that they may use up the pools, how far, for domain 0, a collection has come, how many finalisers the domain owes before its next `full_major`, what its deck of hints has counted, where its commands come from, how far it has come in its section, how many finalisers the domain has room for, and, where commands are handed in, the replies of those that ran and weren't taken so far
 pub record RunView : Type 0 where
   pub token : Token
   pub commands : List model.Command
@@ -113,7 +114,7 @@ EndsIn Listed whole last = whole ≡ last
 EndsIn Section whole last = Unit {0}
 EndsIn _ whole last = (past : List _) × (whole ≡ past ++ last)
 
--- and what it has of its replies: these where all commands were listed, and where they are handed in that of the last command and, apart from it, those of the finalisers that have run since it was handed in
+-- and what it has of its replies: these where all commands were listed, and where they are handed in that of the last command and, apart from it, those of the finalisers that ran and weren't taken so far
 abbrev pub AreKept : Supply → Sizes → List Entry → ℕ → List Reply → List Reply → Type 0
 AreKept Listed z front d said ran = (replies z front d ≡ said) × (ran ≡ [])
 AreKept Section z front d said ran = ran ≡ []
@@ -250,18 +251,22 @@ pub record IsRun (r : RunView) : Type 0 where
   pub told : r.ended ≡ true → IsTold r.place
   pub spares : r.spare ≡ r.token.config.finals
 
+-- how many replies fit into a queue in all
+abbrev pub places_in : Bounded Reply → ℕ
+places_in q = length q.items + q.room
+
 -- the room that a run has reserved, for commands and for replies: each command answers once, and so does each finaliser that it registers. Where commands are handed in there is room for one, and for the replies of as many finalisers as the domain has room for
 pub record HasReserved (supply : Supply) (count spare commands replies ran : ℕ) : Type 0 where
   pub answers : count + count ≤ replies
   pub one : IsHandedIn supply → (1 ≤ commands) × (2 ≤ replies)
   pub apart : IsHandedIn supply → spare ≤ ran
 
--- an open run whose last command is done may be given this one: it fits, and there are room and a label for what it makes, and room for what it registers
+-- an open run whose last command is done may be given this one: it fits, and there are room and a label for what it makes, and room for what it registers, which each finaliser takes until its reply was taken
 pub record MaySubmit (r : RunView) (c : model.Command) : Type 0 where
   pub more : r.supply ≡ Open
   pub done : r.next ≡ length r.commands
   pub fits : FitsHeap c
-  pub enlists : count_of r.token.view.own.finalisers + registrations_of c ≤ r.token.config.finals
+  pub enlists : length r.ran + (count_of r.token.view.own.finalisers + registrations_of c) ≤ r.spare
   pub room : ephemerons_of c ≤ r.token.view.own.ephemerons.room
   pub labels : r.token.view.own.serial + labels_of c < 2 ^ 32
 
@@ -713,9 +718,16 @@ pub data Stretches (z : Sizes) (old new : RunView) : Type 0 where
   ByEnd : MadeEnd z old new → Stretches z old new
   BySection : MadeSteps z old new → Stretches z old new
 
--- an open run with this token that keeps neither a command nor a reply
+-- what waits to be taken is kept, and behind it come the replies of the domain's finalisers that ran since, in order, as its front tells them
+pub record AddsRan (z : Sizes) (old new : RunView) : Type 0 where
+  pub number : new.token.view.own.number ≡ old.token.view.own.number
+  pub more : List Reply
+  pub waits : new.ran ≡ old.ran ++ more
+  pub told : finalised z new.token.view.seen.front old.token.view.own.number ≡ finalised z old.token.view.seen.front old.token.view.own.number ++ more
+
+-- an open run with this token that keeps neither a command nor its reply
 abbrev pub cleared : RunView → Token → RunView
-cleared r t = record r { token = t; commands = []; next = 0; replies = []; ran = []; asked = None; collected = false; due = 0 }
+cleared r t = record r { token = t; commands = []; next = 0; replies = []; asked = None; collected = false; due = 0 }
 
 -- what the try of a command without a turn came to: it was made, and the run keeps neither it nor its reply, or a pause that it needs must come first, or it was refused
 abbrev pub TriesNow : SharedHeap → RunView → RunView → model.Command → Option Reply → Type 0
@@ -759,9 +771,9 @@ pub record GoesOn (old new : RunView) : Type 0 where
   pub front : IsPrefix old.token.view.seen.front new.token.view.seen.front
   pub over : old.ended ≡ true → StaysOver old new
 
--- a run with this command to make, which forgets what the one before left
+-- a run with this command to make, which forgets the one before and its reply
 abbrev pub submitted : RunView → model.Command → RunView
-submitted r c = record r { commands = c ∷ []; next = 0; replies = []; ran = []; asked = None; collected = false }
+submitted r c = record r { commands = c ∷ []; next = 0; replies = []; asked = None; collected = false }
 
 -- a run whose domain has arrived, wanted or not
 abbrev pub halted : RunView → RunView

@@ -20,31 +20,24 @@ fn is_poll(command: &Command) -> bool
     matches!(command, Command::Poll)
 }
 
-// Forgets the command that was handed in last, its reply, and those of finalisers, where there are any. Mostly
-// there are none: then nothing is written.
+// Forgets the command that was handed in last, and its reply. Mostly there is none: then nothing is written.
 #[inline(always)]
 #[tactic(auto, using(crate::proofs::AtOnce::no_items))]
-fn forget(
-    commands: &mut Vec<Command>,
-    next: &mut usize,
-    replies: &mut Vec<Reply>,
-    ran: &mut Vec<Reply>,
-)
+fn forget(commands: &mut Vec<Command>, next: &mut usize, replies: &mut Vec<Reply>)
     requires within { next.old ≤ length commands.old.items }
     requires answered { length replies.old.items ≡ next.old }
     ensures commands { commands.new.items ≡ [] }
     ensures next { next.new ≡ 0 }
     ensures replies { replies.new.items ≡ [] }
-    ensures ran { ran.new.items ≡ [] }
-    ensures room { (vec_capacity commands.new ≡ vec_capacity commands.old) × (vec_capacity replies.new ≡ vec_capacity replies.old) × (vec_capacity ran.new ≡ vec_capacity ran.old) }
+    ensures one { vec_capacity commands.new ≡ vec_capacity commands.old }
+    ensures room { vec_capacity replies.new ≡ vec_capacity replies.old }
 {
-    if commands.is_empty() && ran.is_empty() {
+    if commands.is_empty() {
         return;
     }
     commands.clear();
     *next = 0;
     replies.clear();
-    ran.clear();
 }
 
 // Tries a command of a running domain that found no pause wanted. Answers its reply, unless a pause must
@@ -60,12 +53,7 @@ fn try_now(heap: &Heap, run: &mut DomainRun, command: &Command) -> Option<Reply>
 {
     match try_command(heap, &mut run.domain, command, false, false) {
         Attempt::Made(reply) => {
-            forget(
-                &mut run.commands,
-                &mut run.next,
-                &mut run.replies,
-                &mut run.ran,
-            );
+            forget(&mut run.commands, &mut run.next, &mut run.replies);
             run.asked = None;
             run.collected = false;
             run.due = 0;
@@ -78,7 +66,7 @@ fn try_now(heap: &Heap, run: &mut DomainRun, command: &Command) -> Option<Reply>
 impl DomainRun {
     /// Makes the next command of an open run whose last command is done, without a turn, and answers its
     /// reply. The conditions are those of [`submit`](DomainRun::submit). The run then keeps neither the command nor
-    /// its reply, nor those of finalisers.
+    /// its reply.
     ///
     /// It is made so exactly where the domain runs, no finaliser waits in its queue, it is no `poll`, no pause is
     /// wanted, and none must come first, as for a `minor`, a `major`, a `full_major`, an allocation that finds no

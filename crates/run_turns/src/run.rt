@@ -5,6 +5,7 @@ ghost use Rattle.heap_rule.specs.declared.phase.Kind.TheVariants.{Run};
 ghost use Rattle.heap_rule.specs.declared.phase.Stage.TheVariants.{In};
 ghost use Rattle.gc_mark.specs.Slices.{IsDeckOf};
 ghost use Rattle.run_turns.specs.Runs.{AreLastRan, CanBegin, CanBeginSection, FinalisersFit, HasMade, HasPrinted, HasReplies, IsAlong, IsHandedIn, IsLastReply, IsRun, IsUnanswered, MaySubmit, answer_of, first_place, is_asked, served_since, standing, submitted, unturned};
+ghost use Rattle.run_turns.specs.Singly.Driving.{registered};
 ghost use Rattle.step_finalisers.specs.Registering.{count_of};
 
 use crate::place::Place;
@@ -12,6 +13,7 @@ use crate::supply::Supply;
 use crate::turns::is_served;
 use gc_mark::Hints;
 use heap_rule::{Domain, Kind, Progress};
+use heap_words::remembered::BoundedQueue;
 use model_core::command::Command;
 use model_core::reply::Reply;
 use std::alloc::{AllocError, Global};
@@ -45,20 +47,20 @@ pub struct DomainRun {
     pub(crate) place: Place,
     // How many finalisers the domain has room for.
     pub(crate) spare: usize,
-    // The replies of the finalisers that have run since the last command was handed in. Where all commands
-    // were listed they stand among `replies`.
-    pub(crate) ran: Vec<Reply>,
+    // The replies of the finalisers that ran, until they are taken. Where all commands were listed they stand
+    // among `replies`.
+    pub(crate) ran: BoundedQueue<Reply>,
 }
 
 impl Model for DomainRun {
     ghost use Rattle.std.specs.Prelude.{◌≡◌, [], length, vec_capacity};
-    ghost use Rattle.run_turns.specs.Runs.{HasReserved, IsRun, RunView};
+    ghost use Rattle.run_turns.specs.Runs.{HasReserved, IsRun, RunView, places_in};
 
     ghost Value = { RunView };
 
     ghost view = { λ r. record { token = r.domain; commands = r.commands.items; next = r.next; replies = r.replies.items; ended = r.ended; left = r.left; asked = r.asked; collected = r.collected; progress = r.progress; due = r.due; hints = r.hints; supply = r.supply; place = r.place; spare = r.spare; ran = r.ran.items } };
 
-    ghost invariant = { λ r. IsRun (record { token = r.domain; commands = r.commands.items; next = r.next; replies = r.replies.items; ended = r.ended; left = r.left; asked = r.asked; collected = r.collected; progress = r.progress; due = r.due; hints = r.hints; supply = r.supply; place = r.place; spare = r.spare; ran = r.ran.items }) × HasReserved r.supply (length r.commands.items) r.spare (vec_capacity r.commands) (vec_capacity r.replies) (vec_capacity r.ran) };
+    ghost invariant = { λ r. IsRun (record { token = r.domain; commands = r.commands.items; next = r.next; replies = r.replies.items; ended = r.ended; left = r.left; asked = r.asked; collected = r.collected; progress = r.progress; due = r.due; hints = r.hints; supply = r.supply; place = r.place; spare = r.spare; ran = r.ran.items }) × HasReserved r.supply (length r.commands.items) r.spare (vec_capacity r.commands) (vec_capacity r.replies) (places_in r.ran) };
 }
 
 // Where a section stands before its first turn.
@@ -119,7 +121,7 @@ impl DomainRun {
         let spare = domain.finals_room();
         let kept = room_for_replies(supply, commands.len(), spare);
         let replies = Vec::with_capacity(alloc, kept.said)?;
-        let ran = Vec::with_capacity(alloc, kept.ran)?;
+        let ran = BoundedQueue::make(alloc, kept.ran)?;
         Ok(DomainRun {
             domain,
             commands,
@@ -185,8 +187,8 @@ impl DomainRun {
     /// An open run of a domain: its commands are handed in one by one, by [`submit`](DomainRun::submit), and
     /// its trace ends only after [`close`](DomainRun::close). The domain and its hints are as for
     /// [`make`](DomainRun::make), with no command. Of the replies to its commands it keeps the last alone, and
-    /// apart from it those of the finalisers that have run since that command was handed in. The room for all
-    /// these is reserved here. Fails for want of memory alone, and then the domain is given up.
+    /// apart from it those of the finalisers that ran, each until it is [taken](DomainRun::take_ran). The room
+    /// for all these is reserved here. Fails for want of memory alone, and then the domain is given up.
     pub fn make_open(alloc: Global, dom: Domain, hints: Hints) -> Result<DomainRun, AllocError>
         requires begins { CanBegin dom [] }
         requires deck { IsDeckOf dom.config dom.view hints }
@@ -198,8 +200,7 @@ impl DomainRun {
 
     /// Hands in the next command of an open run whose last command is done. It fits the shared heap, its
     /// registers and numbers are in their ranges, and there are room for an ephemeron that it makes and for
-    /// a finaliser that it registers, and a label for a block. The reply to the command before is forgotten,
-    /// and so are those of the finalisers that have run since that one was handed in.
+    /// a finaliser that it registers, and a label for a block. The reply to the command before is forgotten.
     pub fn submit(&mut self, command: Command)
         requires may { MaySubmit self.old command }
         ensures { self.new ≡ submitted self.old command }
@@ -207,7 +208,6 @@ impl DomainRun {
         self.commands.clear();
         self.commands.push_reserved(command);
         self.replies.clear();
-        self.ran.clear();
         self.next = 0;
         self.asked = None;
         self.collected = false;
@@ -227,17 +227,48 @@ impl DomainRun {
         }
     }
 
-    /// The replies of the finalisers that have run since the last command was handed in, in order: those that
-    /// ran before it was done and those since. They are the last replies of finalisers of the domain in its
-    /// part of the history. Of a run whose commands were all listed there is none: there they stand among
-    /// [`replies`](DomainRun::replies).
-    pub fn ran(&self) -> &[Reply]
-        ensures ran { result.now ≡ self.now.ran }
-        ensures of_history { IsHandedIn self.now.supply → AreLastRan self.now result.now }
-        ensures none { (IsHandedIn self.now.supply → ⊥) → result.now ≡ [] }
-        ensures few { IsHandedIn self.now.supply → FinalisersFit self.now result.now }
+    /// How many finalisers ran whose replies wait to be taken. Theirs are the last replies of finalisers of the
+    /// domain in its part of the history. Of a run whose commands were all listed none waits: there they stand
+    /// among [`replies`](DomainRun::replies).
+    pub fn ran_len(&self) -> usize
+        ensures len { result ≡ length self.now.ran }
+        ensures of_history { IsHandedIn self.now.supply → AreLastRan self.now self.now.ran }
+        ensures none { (IsHandedIn self.now.supply → ⊥) → result ≡ 0 }
+        ensures few { IsHandedIn self.now.supply → FinalisersFit self.now self.now.ran }
     {
-        &self.ran
+        self.ran.len()
+    }
+
+    /// The reply at this place of those that wait to be taken, from the oldest at 0 on. None exactly where fewer
+    /// wait.
+    pub fn ran(&self, place: usize) -> Option<Reply>
+        ensures { result ≡ slice_get self.now.ran place }
+    {
+        if place < self.ran.len() {
+            Some(self.ran.get(place))
+        } else {
+            None
+        }
+    }
+
+    /// Takes the oldest reply of those that wait, which makes room for a finaliser more. None exactly where none
+    /// waits. It may also be taken once the trace has ended.
+    pub fn take_ran(&mut self) -> Option<Reply>
+        ensures oldest { result ≡ slice_get self.old.ran 0 }
+        ensures others { self.new ≡ record self.old { ran = drop 1 self.old.ran } }
+    {
+        if self.ran.len() == 0 {
+            return None;
+        }
+        Some(self.ran.remove(0))
+    }
+
+    /// How many more finalisers can be registered. Each takes room until it ran and its reply was taken.
+    pub fn finals_left(&self) -> usize
+        ensures left { result + (registered self.now + length self.now.ran) ≡ self.now.spare }
+        ensures spare { self.now.spare ≡ self.now.token.config.finals }
+    {
+        self.domain.finals_room() - self.ran.len()
     }
 
     /// No command comes any more. The last one that was handed in is done.

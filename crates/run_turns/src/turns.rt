@@ -10,7 +10,7 @@ ghost use Rattle.heap_rule.specs.Standing.{noted, with_front, ShowsRegisters};
 ghost use Rattle.heap_rule.specs.Token.{IsIn};
 ghost use Rattle.gc_pause.specs.Stops.Looks.{bit_of};
 ghost use Rattle.heap_rule.specs.Limits.{sizes_in};
-ghost use Rattle.run_turns.specs.Runs.{EndsWith, KnowsQueue, StaysOver, Stretches, HasEnded, EndsTrace, RunAnswers, TurnAnswers, RestAnswers, CalmAnswers, GoesOn, CalmDid, IsHandedIn, IsUnqueued, PassesOn, Polls, RunsFinaliser, TrialAnswers, WaitsForAnswer, is_asked, lets_refuse, may_use_up, served_since, halted, noted_token, ran_with, said_with, WorksBeside};
+ghost use Rattle.run_turns.specs.Runs.{EndsWith, KnowsQueue, StaysOver, Stretches, HasEnded, EndsTrace, RunAnswers, TurnAnswers, RestAnswers, CalmAnswers, GoesOn, CalmDid, IsHandedIn, IsUnqueued, PassesOn, Polls, RunsFinaliser, TrialAnswers, WaitsForAnswer, is_asked, lets_refuse, may_use_up, served_since, halted, noted_token, places_in, ran_with, said_with, WorksBeside};
 ghost use Rattle.run_turns.specs.Sections.{IsOrdinary, IsTold};
 ghost use Rattle.run_turns.specs.LookOutcomes.{PastAnswers, asked_after, collected_after, due_after, next_after, replies_after};
 ghost use Rattle.model_core.specs.declared.reply.Reply as says;
@@ -31,6 +31,7 @@ use gc_pause::stops::{Want, arrive, ask, look, wants};
 use gc_sweep::sweep_slice;
 use heap_rule::{Domain, Heap, Kind};
 use heap_words::classes::reserve;
+use heap_words::remembered::BoundedQueue;
 use model_core::command::Command;
 use model_core::reply::Reply;
 use step_marks::marking::armed_now;
@@ -67,16 +68,17 @@ pub(crate) fn is_served(run: &DomainRun) -> bool
 
 // Keeps the reply of a finaliser: where commands are handed in, apart from theirs.
 #[inline(always)]
-fn keep_ran(supply: Supply, replies: &mut Vec<Reply>, ran: &mut Vec<Reply>, reply: Reply)
+fn keep_ran(supply: Supply, replies: &mut Vec<Reply>, ran: &mut BoundedQueue<Reply>, reply: Reply)
     requires among { (IsHandedIn supply → ⊥) → vec_len replies.old < vec_capacity replies.old }
-    requires apart { IsHandedIn supply → vec_len ran.old < vec_capacity ran.old }
+    requires apart { IsHandedIn supply → 1 ≤ ran.old.room }
     ensures replies { replies.new.items ≡ said_with supply replies.old.items reply }
     ensures ran { ran.new.items ≡ ran_with supply ran.old.items reply }
-    ensures room { (vec_capacity replies.new ≡ vec_capacity replies.old) × (vec_capacity ran.new ≡ vec_capacity ran.old) }
+    ensures room { vec_capacity replies.new ≡ vec_capacity replies.old }
+    ensures places { places_in ran.new ≡ places_in ran.old }
 {
     match supply {
         Supply::Listed | Supply::Section => replies.push_reserved(reply),
-        Supply::Open | Supply::Closed => ran.push_reserved(reply),
+        Supply::Open | Supply::Closed => ran.push(reply),
     }
 }
 

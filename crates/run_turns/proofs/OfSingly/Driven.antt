@@ -1,5 +1,5 @@
 -- A turn of a run whose commands are handed in.
-use Rattle.std.proofs.Common.{◌≡◌, ◌∙◌, ℕ, ◌+◌, ◌≤◌, List, [], ◌∷◌, ◌++◌, append-nil, length, length-append, slice_get, Some, None, Option, refl, sym, ap, subst, arith}
+use Rattle.std.proofs.Common.{◌≡◌, ◌∙◌, ℕ, ◌+◌, ◌≤◌, List, [], ◌∷◌, ◌++◌, length, length-append, slice_get, Some, None, Option, refl, sym, ap, subst, arith}
 use Rattle.model_core.specs.declared.command.Command as model
 use Rattle.model_core.specs.declared.entry.Entry.TheVariants.{Command, Ran}
 use Rattle.model_core.specs.declared.reply.Reply.{Reply}
@@ -11,8 +11,7 @@ use Rattle.heap_rule.specs.Limits.{sizes_in}
 use Rattle.heap_rule.specs.Token.{SharedHeap, IsIn}
 use Rattle.run_turns.specs.declared.supply.Supply.{Supply}
 use Rattle.run_turns.specs.declared.supply.Supply.TheVariants.{Section, Open, Closed}
-use Rattle.run_turns.specs.Handed.{Finalised}
-use Rattle.run_turns.specs.Runs.{RunView, Appended, GoesOn, IsHandedIn, IsRun, Stretches, Takes, answer_of, first_reply, ran_with, said_with}
+use Rattle.run_turns.specs.Runs.{RunView, Appended, GoesOn, IsHandedIn, IsRun, Stretches, Takes, answer_of, first_reply, said_with}
 use Rattle.run_turns.specs.Runs.Stretches.{ByOthers, ByCommand, ByFinaliser, ByEnd, BySection}
 use Rattle.run_turns.proofs.Handed.{finalised_more, finalised_others, performed_on}
 use Rattle.run_turns.proofs.Taking.{takes_none, takes_on}
@@ -74,8 +73,9 @@ awaits_turn h start c old new a here s g = by s
           commands = g.commands ∙ a.commands;
           next = m.next ∙ a.next;
           replies = replies;
-          finalised = subst (Finalised z d start.seen.front new.token.view.seen.front) (sym m.ran) (finalised_others z d start.seen.front old.token.view.seen.front new.token.view.seen.front old.ran a.finalised later);
-          listed = (λ i. m.listed i + length (m.ran i)) ∙ a.listed;
+          ran = a.ran;
+          finalised = finalised_others z d start.seen.front old.token.view.seen.front new.token.view.seen.front a.ran a.finalised later;
+          listed = (λ i. m.listed i + length a.ran) ∙ a.listed;
           takes = takes_on 0 0 start old.token.view new.token.view a.takes m.takes;
         })
     by (ByCommand m) =
@@ -90,18 +90,17 @@ awaits_turn h start c old new a here s g = by s
           number = number;
           more = more;
           done = m.next ∙ (ap (λ (n : ℕ). n + 1) a.next ∙ sym (ap (λ (cs : List model.Command). length cs) (g.commands ∙ a.commands)));
-          performed = performed_on z d start.seen.front old.token.view.seen.front new.token.view.seen.front c m.full new.ran m.reply (subst (Finalised z d start.seen.front old.token.view.seen.front) (sym m.ran) a.finalised) last;
+          ran = a.ran;
+          performed = performed_on z d start.seen.front old.token.view.seen.front new.token.view.seen.front c m.full a.ran m.reply a.finalised last;
           listed =
               let few : count_of new.token.view.own.finalisers ≤ count_of old.token.view.own.finalisers + registrations_of c = subst (λ (d : model.Command). count_of new.token.view.own.finalisers ≤ count_of old.token.view.own.finalisers + registrations_of d) same m.listed in
-              let ran : length new.ran ≡ length old.ran = ap (λ (rs : List Reply). length rs) m.ran in
               let before = a.listed in
-              omega (arith, few, ran, before);
+              omega (arith, few, before);
           takes = takes_on (labels_given c m.reply) (ephemerons_given c m.reply) start old.token.view new.token.view a.takes (subst (λ (d : model.Command). Takes (labels_given d m.reply) (ephemerons_given d m.reply) old.token.view new.token.view) same m.takes);
         })
     by (ByFinaliser m) =
         let replies : new.replies ≡ [] = m.replies ∙ ((λ i. said_with (a.more i) (a.replies i) m.reply)) in
         let none : answer_of new ≡ None = λ i. first_reply (more i) (replies i) in
-        let ran : new.ran ≡ old.ran ++ m.reply ∷ [] = m.ran ∙ ap (λ (s : Supply). ran_with s old.ran m.reply) a.more in
         let last : Appended z d old.token.view.seen.front new.token.view.seen.front (Ran d) (Replied m.reply) = subst (λ (n : ℕ). Appended z n old.token.view.seen.front new.token.view.seen.front (Ran n) (Replied m.reply)) a.number m.front in
         subst (AwaitAnswers h start c new) (sym none) (record {
           here = here;
@@ -110,11 +109,12 @@ awaits_turn h start c old new a here s g = by s
           commands = g.commands ∙ a.commands;
           next = m.next ∙ a.next;
           replies = replies;
-          finalised = subst (Finalised z d start.seen.front new.token.view.seen.front) (sym ran) (finalised_more z d start.seen.front old.token.view.seen.front new.token.view.seen.front old.ran m.reply a.finalised last);
+          ran = a.ran ++ m.reply ∷ [];
+          finalised = finalised_more z d start.seen.front old.token.view.seen.front new.token.view.seen.front a.ran m.reply a.finalised last;
           listed =
               let less = m.listed in
               let before = a.listed in
-              let one : length new.ran ≡ length old.ran + 1 = ap (λ (rs : List Reply). length rs) ran ∙ length-append old.ran (m.reply ∷ []) in
+              let one = length-append a.ran (m.reply ∷ []) in
               omega (arith, less, before, one);
           takes = takes_on 0 0 start old.token.view new.token.view a.takes m.takes;
         })

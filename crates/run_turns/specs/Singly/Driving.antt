@@ -1,5 +1,5 @@
 -- A run whose commands are handed in, while it makes one, while it waits for the next, and once it gets no more.
-use Rattle.std.specs.Prelude.{◌≡◌, ◌≤◌, ℕ, ◌+◌, [], ◌∷◌, length, Option, Some, None}
+use Rattle.std.specs.Prelude.{◌≡◌, ◌≤◌, ℕ, ◌+◌, List, [], ◌∷◌, length, Option, Some, None}
 use Rattle.model_core.specs.declared.command.Command as model
 use Rattle.model_core.specs.declared.reply.Reply.{Reply}
 use Rattle.heap_rule.specs.Limits.{sizes_in}
@@ -16,7 +16,7 @@ use Rattle.step_finalisers.specs.Registering.{count_of}
 abbrev pub registered : RunView → ℕ
 registered r = count_of r.token.view.own.finalisers
 
--- it has this command to make. Since it was handed in the front has grown by entries of others and by runs of finalisers, whose replies the run keeps, and no label or room was taken
+-- it has this command to make. Since it was handed in the front has grown by entries of others and by runs of finalisers, and no label or room was taken
 pub record Awaits (h : SharedHeap) (start : DomainView) (c : model.Command) (r : RunView) : Type 0 where
   pub here : IsIn r.token h
   pub number : r.token.view.own.number ≡ start.own.number
@@ -24,18 +24,20 @@ pub record Awaits (h : SharedHeap) (start : DomainView) (c : model.Command) (r :
   pub commands : r.commands ≡ c ∷ []
   pub next : r.next ≡ 0
   pub replies : r.replies ≡ []
-  pub finalised : Finalised (sizes_in h.config) start.own.number start.seen.front r.token.view.seen.front r.ran
-  pub listed : registered r + length r.ran ≡ count_of start.own.finalisers
+  pub ran : List Reply
+  pub finalised : Finalised (sizes_in h.config) start.own.number start.seen.front r.token.view.seen.front ran
+  pub listed : registered r + length ran ≡ count_of start.own.finalisers
   pub takes : Takes 0 0 start r.token.view
 
--- it has made it, with this reply
+-- it has made it, with this reply, behind the finalisers that ran meanwhile
 pub record Answered (h : SharedHeap) (start : DomainView) (c : model.Command) (reply : Reply) (r : RunView) : Type 0 where
   pub here : IsIn r.token h
   pub number : r.token.view.own.number ≡ start.own.number
   pub more : r.supply ≡ Open
   pub done : r.next ≡ length r.commands
-  pub performed : PerformedOn (sizes_in h.config) start.own.number start.seen.front r.token.view.seen.front c r.ran reply
-  pub listed : registered r + length r.ran ≤ count_of start.own.finalisers + registrations_of c
+  pub ran : List Reply
+  pub performed : PerformedOn (sizes_in h.config) start.own.number start.seen.front r.token.view.seen.front c ran reply
+  pub listed : registered r + length ran ≤ count_of start.own.finalisers + registrations_of c
   pub takes : Takes (labels_given c reply) (ephemerons_given c reply) start r.token.view
 
 -- by the reply, if there is one

@@ -1,6 +1,7 @@
 //! The first way of a command: at once, without a turn.
+ghost use Rattle.heap_rule.specs.Limits.{sizes_in};
 ghost use Rattle.heap_rule.specs.Token.{IsIn};
-ghost use Rattle.run_turns.specs.Runs.{MaySubmit};
+ghost use Rattle.run_turns.specs.Runs.{AddsRan, MaySubmit};
 ghost use Rattle.run_turns.specs.Singly.Driving.{AwaitAnswers};
 
 use crate::DomainRun;
@@ -16,6 +17,7 @@ pub fn begin(heap: &Heap, run: &mut DomainRun, command: Command) -> Option<Reply
     requires may { MaySubmit run.old command }
     ensures here { IsIn run.new.token heap.now }
     ensures answers { AwaitAnswers heap.now run.old.token.view command run.new result }
+    ensures ran { AddsRan (sizes_in heap.now.config) run.old run.new }
 {
     if let Some(reply) = run.perform_now(heap, command) {
         return Some(reply);

@@ -2,7 +2,9 @@
 ghost use Rattle.std.specs.Prelude.{◌≡◌, true};
 ghost use Rattle.heap_rule.specs.Limits.{sizes_in};
 ghost use Rattle.heap_rule.specs.Token.{IsIn};
+ghost use Rattle.run_turns.specs.declared.singly.turning.Came as far;
 ghost use Rattle.run_turns.specs.Runs.{GoesOn, Stretches};
+ghost use Rattle.run_turns.specs.Singly.Turning.{CameTo, far_of};
 
 use crate::{DomainRun, Turned, turn};
 use heap_rule::Heap;
@@ -25,7 +27,7 @@ pub enum Came {
 
 // How far a turn with this answer came.
 fn reached(turned: Turned) -> Came
-    ensures { result ≡ Came.Ended → turned ≡ Turned.Ended }
+    ensures { result ≡ far_of turned }
 {
     match turned {
         Turned::Did => Came::On,
@@ -35,11 +37,12 @@ fn reached(turned: Turned) -> Came
     }
 }
 
-/// One turn. A domain that has arrived 2^60 times isn't turned any more.
-#[tactic(auto, using(crate::proofs::OfSingly::Driven::still_stretches, crate::proofs::OfSingly::Driven::still_goes))]
+/// One turn, and how far it came. A domain that has arrived 2^60 times isn't turned any more.
 pub fn turn_below(heap: &Heap, run: &mut DomainRun) -> Came
     requires here { IsIn run.old.token heap.now }
     ensures here { IsIn run.new.token heap.now }
+    ensures came { CameTo heap.now run.old run.new result }
+    ensures exact { (other : far.Came) → CameTo heap.now run.old run.new other → other ≡ result }
     ensures stretch { Stretches (sizes_in heap.now.config) run.old run.new }
     ensures goes_on { GoesOn run.old run.new }
     ensures ended { result ≡ Came.Ended → run.new.ended ≡ true }

@@ -1,6 +1,8 @@
 //! The loop by which a command is made that isn't made at once.
 ghost use Rattle.std.specs.Prelude.{◌≡◌};
+ghost use Rattle.heap_rule.specs.Limits.{sizes_in};
 ghost use Rattle.heap_rule.specs.Token.{IsIn};
+ghost use Rattle.run_turns.specs.Runs.{AddsRan, IsHandedIn};
 ghost use Rattle.run_turns.specs.Singly.Driving.{AnswersAwaited};
 
 use crate::DomainRun;
@@ -25,6 +27,7 @@ pub fn await_reply<R: Wait, K, M: Meanwhile<K>>(
     ensures here { IsIn run.new.token heap.now }
     ensures same { kept.new ≡ kept.old }
     ensures answered { AnswersAwaited heap.now run.old run.new (Some result) }
+    ensures ran { IsHandedIn run.old.supply → AddsRan (sizes_in heap.now.config) run.old run.new }
 {
     'turns: for _ in rt.forever() {
         meanwhile.before_turn();

@@ -17,7 +17,7 @@ try_command-requires-clause-runs c =
 pub try_command-requires-clause-enlists : goal.try_command-requires-clause-enlists
 try_command-requires-clause-enlists c =
     let r : RunView = record { token = c.run.inside.domain; commands = c.run.inside.commands.items; next = c.run.inside.next; replies = c.run.inside.replies.items; ended = c.run.inside.ended; left = c.run.inside.left; asked = c.run.inside.asked; collected = c.run.inside.collected; progress = c.run.inside.progress; due = c.run.inside.due; hints = c.run.inside.hints; supply = c.run.inside.supply; place = c.run.inside.place; spare = c.run.inside.spare; ran = c.run.inside.ran.items } in
-    submits_enlists c.args.heap.now r c.args.command.now (subst (λ (x : RunView). IsIn x.token c.args.heap.now) (sym c.run.view_is) c.requires.here) (subst (λ (x : RunView). MaySubmit x c.args.command.now) (sym c.run.view_is) c.requires.may)
+    submits_enlists c.args.heap.now r c.args.command.now (subst (λ (x : RunView). IsIn x.token c.args.heap.now) (sym c.run.view_is) c.requires.here) c.run.invariant.0 (subst (λ (x : RunView). MaySubmit x c.args.command.now) (sym c.run.view_is) c.requires.may)
 
 pub forget-requires-clause-answered : goal.forget-requires-clause-answered
 forget-requires-clause-answered c =
@@ -34,13 +34,12 @@ invariant_of-run c =
     let is = cleared_is_run c.args.heap.now r c.try_command.new.dom c.args.command.now c.in-Made.reply c.run.invariant.0 may left c.in-Made.ensures.answer.0 c.in-Made.ensures.answer.1 in
     let handed : IsHandedIn r.supply = subst IsHandedIn (sym may.more) tt in
     let before = c.run.invariant.1 in
-    let kept = c.forget.ensures.room in
-    let first : 1 ≤ vec_capacity c.forget.new.commands = omega (arith, (before.one handed).0, kept.0) in
-    let second : 2 ≤ vec_capacity c.forget.new.replies = omega (arith, (before.one handed).1, kept.1) in
-    let apart : r.spare ≤ vec_capacity c.forget.new.ran = let was = before.apart handed in omega (arith, was, kept.2) in
+    let kept = c.forget.ensures in
+    let first : 1 ≤ vec_capacity c.forget.new.commands = omega (arith, (before.one handed).0, kept.one) in
+    let second : 2 ≤ vec_capacity c.forget.new.replies = omega (arith, (before.one handed).1, kept.room) in
     let none : length c.forget.new.commands.items ≡ 0 = ap (λ (cs : List model.Command). length cs) c.forget.ensures.commands in (
-      subst (λ (z : (List model.Command × ℕ) × (List Reply × List Reply)). IsRun (record (cleared r c.try_command.new.dom) { commands = z.0.0; next = z.0.1; replies = z.1.0; ran = z.1.1 })) (λ i. ((sym c.forget.ensures.commands i, sym c.forget.ensures.next i), (sym c.forget.ensures.replies i, sym c.forget.ensures.ran i))) is,
-      record { answers = omega (arith, none); one = λ _. (first, second); apart = λ _. apart },
+      subst (λ (z : (List model.Command × ℕ) × List Reply). IsRun (record (cleared r c.try_command.new.dom) { commands = z.0.0; next = z.0.1; replies = z.1 })) (λ i. ((sym c.forget.ensures.commands i, sym c.forget.ensures.next i), sym c.forget.ensures.replies i)) is,
+      record { answers = omega (arith, none); one = λ _. (first, second); apart = before.apart },
     )
 
 pub invariant_of-run-in-Needs : goal.invariant_of-run-in-Needs

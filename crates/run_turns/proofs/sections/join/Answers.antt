@@ -8,7 +8,7 @@ use Rattle.run_turns.specs.declared.place.Place.TheVariants.{Before}
 use Rattle.run_turns.specs.declared.supply.Supply.{Supply}
 use Rattle.run_turns.specs.declared.supply.Supply.TheVariants.{Section}
 use Rattle.run_turns.specs.Sections.{FitsIn}
-use Rattle.run_turns.specs.Runs.{HasReserved, HeldBack, IsRun, IsUnqueued, MakesCommand, RunView, TakeAnswers}
+use Rattle.run_turns.specs.Runs.{HasReserved, HeldBack, IsRun, IsUnqueued, MakesCommand, RunView, TakeAnswers, places_in}
 use Rattle.run_turns.specs.Runs.CalmDid.{Makes}
 use Rattle.run_turns.proofs.SectionTurns.{held_is_run, joined_is_run, join_waits}
 use Rattle.run_turns.proofs.Supplying.{sectioned_by}
@@ -62,7 +62,7 @@ invariant_of-run-2 c =
     let sectioned : r.supply ≡ Section = sectioned_by r.supply (Join c.args.dst c.args.section) (λ e. e) (c.run.invariant.0.fit r.next (Join c.args.dst c.args.section) at) in
     let taken = subst (TakeAnswers c.args.heap.now r.token c.take.new.dom c.args.dst c.args.section) c.in-Some.is c.take.ensures.taken in
     let is = joined_is_run c.args.heap.now r c.take.new.dom c.run.invariant.0 sectioned running left c.args.dst c.args.section c.in-Some.reply at going taken (words_of_registers _ _ c.take.ensures.rest) in
-    let room : HasReserved r.supply (length r.commands) r.spare (vec_capacity c.run.inside.commands) (vec_capacity c.push_reserved.new.self) (vec_capacity c.run.inside.ran) = subst (λ n. HasReserved r.supply (length r.commands) r.spare (vec_capacity c.run.inside.commands) n (vec_capacity c.run.inside.ran)) (sym c.push_reserved.ensures.capacity) c.run.invariant.1 in
+    let room : HasReserved r.supply (length r.commands) r.spare (vec_capacity c.run.inside.commands) (vec_capacity c.push_reserved.new.self) (places_in c.run.inside.ran) = subst (λ n. HasReserved r.supply (length r.commands) r.spare (vec_capacity c.run.inside.commands) n (places_in c.run.inside.ran)) (sym c.push_reserved.ensures.capacity) c.run.invariant.1 in
     (subst (λ (rs : List Reply). IsRun (record r { token = c.take.new.dom; next = r.next + 1; replies = rs; asked = None; collected = false; due = 0 })) (sym c.push_reserved.ensures.items) is, room)
 
 pub returns-in_default-clause-answer : goal.returns-in_default-clause-answer

@@ -5,7 +5,7 @@ use Rattle.run_turns.specs.declared.place.Place.TheVariants.{Before}
 use Rattle.run_turns.specs.declared.supply.Supply.{Supply}
 use Rattle.run_turns.specs.declared.supply.Supply.TheVariants.{Section}
 use Rattle.run_turns.specs.Sections.{FitsIn}
-use Rattle.run_turns.specs.Runs.{HasReserved, IsRun, IsUnqueued, MakesCommand, RunView}
+use Rattle.run_turns.specs.Runs.{HasReserved, IsRun, IsUnqueued, MakesCommand, RunView, places_in}
 use Rattle.run_turns.specs.Runs.CalmDid.{Makes}
 use Rattle.heap_rule.specs.Standing.{ShowsRegisters}
 use Rattle.run_turns.proofs.SectionTurns.{expanded_is_run, single_completes, single_four, single_join, single_ready}
@@ -44,7 +44,7 @@ invariant_of-run c =
     let at : slice_get r.commands r.next ≡ Some c.args.command.now = subst (λ (x : RunView). slice_get x.commands x.next ≡ Some c.args.command.now) (sym c.run.view_is) c.requires.next in
     let sectioned : r.supply ≡ Section = sectioned_by r.supply c.args.command.now (single_four c.args.command.now c.requires.single) (c.run.invariant.0.fit r.next c.args.command.now at) in
     let is = expanded_is_run c.args.heap.now r c.expand-reply.new.dom c.run.invariant.0 sectioned running left c.args.command.now c.expand-reply.result at going (single_join c.args.command.now c.requires.single) c.expand-reply.ensures.expands c.expand-reply.ensures.rest in
-    let room : HasReserved r.supply (length r.commands) r.spare (vec_capacity c.run.inside.commands) (vec_capacity c.push_reserved.new.self) (vec_capacity c.run.inside.ran) = subst (λ n. HasReserved r.supply (length r.commands) r.spare (vec_capacity c.run.inside.commands) n (vec_capacity c.run.inside.ran)) (sym c.push_reserved.ensures.capacity) c.run.invariant.1 in
+    let room : HasReserved r.supply (length r.commands) r.spare (vec_capacity c.run.inside.commands) (vec_capacity c.push_reserved.new.self) (places_in c.run.inside.ran) = subst (λ n. HasReserved r.supply (length r.commands) r.spare (vec_capacity c.run.inside.commands) n (places_in c.run.inside.ran)) (sym c.push_reserved.ensures.capacity) c.run.invariant.1 in
     (subst (λ (rs : List Reply). IsRun (record r { token = c.expand-reply.new.dom; next = r.next + 1; replies = rs; asked = None; collected = false; due = 0 })) (sym c.push_reserved.ensures.items) is, room)
 
 pub returns-clause-did : goal.returns-clause-did

@@ -2,7 +2,7 @@ use Rattle.std.proofs.Common.{◌≡◌, ◌+◌, ◌^◌, ◌<◌, ◌≤◌, �
 use Rattle.std.specs.Prelude.{vec_capacity}
 use Rattle.heap_rule.specs.Token.{Token, IsIn}
 use Rattle.run_turns.specs.LookOutcomes.{PastAnswers}
-use Rattle.run_turns.specs.Runs.{HasReserved, RunView, IsRun, WaitsForAnswer}
+use Rattle.run_turns.specs.Runs.{HasReserved, RunView, IsRun, WaitsForAnswer, places_in}
 use Rattle.run_turns.proofs.Passed.{after_answers, after_is_run, keeps_reply, kept_run, looked_of}
 use Rattle.run_turns.proofs.turns.pass_by.Goals as goal
 
@@ -39,7 +39,7 @@ invariant_of-run c =
     let kept = c.keep_answer.ensures in
     let now = kept_run c.args.heap.now.config r z past c.args.last c.pass-past.new.progress c.pass-past.new.hints c.keep_answer.new.next c.queued.result c.keep_answer.new.due c.keep_answer.new.replies.items c.left_after-run-inside.result c.keep_answer.new.asked c.keep_answer.new.collected kept.next kept.replies c.left_after-run-inside.ensures kept.asked kept.collected kept.due c.queued.ensures in (
       subst IsRun (sym now) (after_is_run c.args.decider c.args.heap.now r z c.args.last live c.pass-past.new.progress c.pass-past.new.hints past c.pass-past.ensures.deck c.run.invariant.0 left here c.pass-past.ensures.here given.0 waits c.pass-past.ensures.knows),
-      subst (λ (n : ℕ). HasReserved r.supply (length r.commands) r.spare (vec_capacity c.run.inside.commands) n (vec_capacity c.run.inside.ran)) (sym kept.capacity) c.run.invariant.1,
+      subst (λ (n : ℕ). HasReserved r.supply (length r.commands) r.spare (vec_capacity c.run.inside.commands) n (places_in c.run.inside.ran)) (sym kept.capacity) c.run.invariant.1,
     )
 
 pub returns-clause-answer : goal.returns-clause-answer

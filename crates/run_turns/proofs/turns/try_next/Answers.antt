@@ -5,7 +5,7 @@ use Rattle.heap_rule.specs.declared.config.Config.{Config}
 use Rattle.heap_rule.specs.Token.{IsIn}
 use Rattle.step_finalisers.specs.Registering.{count_of}
 use Rattle.run_turns.specs.Tries.{registrations_of}
-use Rattle.run_turns.specs.Runs.{HasReserved, RunView, IsRun}
+use Rattle.run_turns.specs.Runs.{HasReserved, RunView, IsRun, places_in}
 use Rattle.run_turns.specs.declared.place.Place.TheVariants.{Before}
 use Rattle.run_turns.proofs.MeetingLemmas.{refused_is_run}
 use Rattle.run_turns.proofs.Turning.{tried_is_run, next_enlists, next_labels, next_replies, next_room}
@@ -45,7 +45,7 @@ invariant_of-run c =
     let left : r.left ≡ None = subst (λ (x : RunView). x.left ≡ None) (sym c.run.view_is) c.requires.left in
     let going : r.place ≢ Before = subst (λ (x : RunView). x.place ≢ Before) (sym c.run.view_is) c.requires.going in
     let is = tried_is_run c.args.heap.now r c.try_command.new.dom c.args.command.now c.in-Made.reply c.run.inside.domain.view.own _ c.run.invariant.0 running left at going c.requires.ordinary c.in-Made.ensures.answer.0 c.in-Made.ensures.answer.1 in
-    let room : HasReserved r.supply (length r.commands) r.spare (vec_capacity c.run.inside.commands) (vec_capacity c.push_reserved.new.self) (vec_capacity c.run.inside.ran) = subst (λ n. HasReserved r.supply (length r.commands) r.spare (vec_capacity c.run.inside.commands) n (vec_capacity c.run.inside.ran)) (sym c.push_reserved.ensures.capacity) c.run.invariant.1 in
+    let room : HasReserved r.supply (length r.commands) r.spare (vec_capacity c.run.inside.commands) (vec_capacity c.push_reserved.new.self) (places_in c.run.inside.ran) = subst (λ n. HasReserved r.supply (length r.commands) r.spare (vec_capacity c.run.inside.commands) n (places_in c.run.inside.ran)) (sym c.push_reserved.ensures.capacity) c.run.invariant.1 in
     (subst (λ (rs : List Reply). IsRun (record r { token = c.try_command.new.dom; next = r.next + 1; replies = rs; asked = None; collected = false; due = 0 })) (sym c.push_reserved.ensures.items) is, room)
 
 pub try_command-requires-clause-fits : goal.try_command-requires-clause-fits

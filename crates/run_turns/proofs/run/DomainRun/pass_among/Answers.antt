@@ -5,7 +5,7 @@ use Rattle.heap_rule.specs.Token.{Token, IsIn}
 use Rattle.gc_pause.specs.declared.stops.answer.Look.TheVariants.{NotAll}
 use Rattle.run_turns.specs.LookOutcomes.{run_after}
 use Rattle.run_turns.specs.Meeting.{ArrivedLeast, PassesAmong, StandsBehind}
-use Rattle.run_turns.specs.Runs.{GoesOn, HasReserved, RunView, IsRun, WaitsForAnswer, run_seeing}
+use Rattle.run_turns.specs.Runs.{GoesOn, HasReserved, RunView, IsRun, WaitsForAnswer, places_in, run_seeing}
 use Rattle.run_turns.proofs.Bringing.{all_met, goes_behind}
 use Rattle.run_turns.proofs.GoingLemmas.{past_goes}
 use Rattle.run_turns.proofs.MeetingLemmas.{seeing_is_run}
@@ -76,7 +76,7 @@ invariant_of-run c =
     let kept = c.keep_answer.ensures in
     let now = kept_run c.args.heap.now.config q z past last c.pass-past.new.progress c.pass-past.new.hints c.keep_answer.new.next c.queued.result c.keep_answer.new.due c.keep_answer.new.replies.items c.left_after-run-inside.result c.keep_answer.new.asked c.keep_answer.new.collected kept.next kept.replies c.left_after-run-inside.ensures kept.asked kept.collected kept.due c.queued.ensures in (
       subst IsRun (sym now) (after_is_run c.args.decider c.args.heap.now q z last live c.pass-past.new.progress c.pass-past.new.hints past c.pass-past.ensures.deck is c.in-Some.is here c.pass-past.ensures.here given.0 waits c.pass-past.ensures.knows),
-      subst (λ (n : ℕ). HasReserved r.supply (length r.commands) r.spare (vec_capacity c.self.inside.commands) n (vec_capacity c.self.inside.ran)) (sym kept.capacity) c.self.invariant.1,
+      subst (λ (n : ℕ). HasReserved r.supply (length r.commands) r.spare (vec_capacity c.self.inside.commands) n (places_in c.self.inside.ran)) (sym kept.capacity) c.self.invariant.1,
     )
 
 pub returns-clause-passed : goal.returns-clause-passed

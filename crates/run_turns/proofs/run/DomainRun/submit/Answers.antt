@@ -15,11 +15,9 @@ invariant_of-self c =
     let replies : c.clear-2.new.self.items ≡ [] = c.clear-2.ensures.items in
     let one : length c.push_reserved.new.self.items ≡ 1 = ap (λ (cs : List model.Command). length cs) commands in
     let room = c.self.invariant.1.one handed in
-    let ran : c.clear-3.new.self.items ≡ [] = c.clear-3.ensures.items in
     let first : 1 ≤ vec_capacity c.push_reserved.new.self = omega (arith, room.0, c.push_reserved.ensures.capacity, c.clear.ensures.capacity) in
-    let second : 2 ≤ vec_capacity c.clear-2.new.self = omega (arith, room.1, c.clear-2.ensures.capacity) in
-    let apart : r.spare ≤ vec_capacity c.clear-3.new.self = let kept = c.self.invariant.1.apart handed in omega (arith, kept, c.clear-3.ensures.capacity) in (
-      subst (λ (z : List model.Command × (List Reply × List Reply)). IsRun (record r { commands = z.0; next = 0; replies = z.1.0; ran = z.1.1; asked = None; collected = false })) (λ i. (sym commands i, (sym replies i, sym ran i)))
+    let second : 2 ≤ vec_capacity c.clear-2.new.self = omega (arith, room.1, c.clear-2.ensures.capacity) in (
+      subst (λ (z : List model.Command × List Reply). IsRun (record r { commands = z.0; next = 0; replies = z.1; asked = None; collected = false })) (λ i. (sym commands i, sym replies i))
           (submitted_is_run r c.args.command c.self.invariant.0 may),
-      record { answers = omega (arith, one, second); one = λ _. (first, second); apart = λ _. apart },
+      record { answers = omega (arith, one, second); one = λ _. (first, second); apart = c.self.invariant.1.apart },
     )
