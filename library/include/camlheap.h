@@ -553,7 +553,8 @@ static inline uint32_t camlheap_map_room_beside(camlheap_domain *domain, camlhea
 }
 
 /* Puts a binding into a weak map, and asks anew while that helps: behind turns, then behind a MINOR, and then behind a sweep of a
- * piece of the map and a FULL_MAJOR, which make room for blocks and in the list of ephemerons. What camlheap_map_put answers:
+ * piece of the map and a FULL_MAJOR, which make room for blocks and in the list of ephemerons; the last two once more, since the
+ * first FULL_MAJOR may be what empties the keys that died. What camlheap_map_put answers:
  * AGAIN or NO_EPHEMERON only where there is still no room, or others have won the field each time. Where it has to make room it
  * uses registers 8 to 15. A map keeps a leaf for each key that lives, and its blocks. */
 static inline uint32_t camlheap_map_bind_beside(camlheap_domain *domain, camlheap_bed *bed, uint8_t map, uint8_t key, uint8_t item, camlheap_reply *reply) {
@@ -564,7 +565,7 @@ static inline uint32_t camlheap_map_bind_beside(camlheap_domain *domain, camlhea
     for (int asked = 0; (told = camlheap_map_put(domain, map, key, item, &made)) == CAMLHEAP_AGAIN && asked < 8; asked++)
       camlheap_settle_beside(domain, bed);
     const bool is_full = told == CAMLHEAP_DONE && made.kind == CAMLHEAP_FULL;
-    if ((told != CAMLHEAP_AGAIN && told != CAMLHEAP_NO_EPHEMERON && !is_full) || rooms == 2) {
+    if ((told != CAMLHEAP_AGAIN && told != CAMLHEAP_NO_EPHEMERON && !is_full) || rooms == 3) {
       if (told == CAMLHEAP_DONE) *reply = made;
       return told;
     }

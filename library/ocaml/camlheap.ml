@@ -16,7 +16,10 @@ external raw_take_ran : handle -> told = "camlheap_seat_take_ran"
 external raw_stats : handle -> stats = "camlheap_seat_stats"
 external raw_map_make : handle -> int -> told = "camlheap_seat_map_make"
 external raw_map_get : handle -> int -> int -> int -> told = "camlheap_seat_map_get"
-external raw_map_put : handle -> int -> int -> int -> told = "camlheap_seat_map_put"
+external raw_map_bind : handle -> int -> int -> int -> told = "camlheap_seat_map_bind"
+external raw_map_sweep : handle -> int -> told = "camlheap_seat_map_sweep"
+external raw_map_clean : handle -> int -> told = "camlheap_seat_map_clean"
+external raw_map_count : handle -> int -> told = "camlheap_seat_map_count"
 external raw_map_take : handle -> int -> int -> told = "camlheap_seat_map_take"
 external raw_turn : handle -> int = "camlheap_seat_turn"
 external raw_close : handle -> int = "camlheap_seat_close"
@@ -181,7 +184,16 @@ module Weak_map = struct
 
   let make ?pause seat ~dst = ask ?pause seat (fun () -> raw_map_make seat.it dst)
   let find ?pause seat ~map ~key ~dst = ask ?pause seat (fun () -> raw_map_get seat.it dst map key)
-  let replace ?pause seat ~map ~key ~item = ask ?pause seat (fun () -> raw_map_put seat.it map key item)
+
+  (* A call that makes commands until it is done; other threads of OCaml run meanwhile. *)
+  let walk seat told =
+    hear seat;
+    if told.code = again then raise (Refused Not_now) else answered told
+
+  let replace seat ~map ~key ~item = walk seat (raw_map_bind seat.it map key item)
+  let sweep seat ~map = walk seat (raw_map_sweep seat.it map)
+  let clean seat ~map = walk seat (raw_map_clean seat.it map)
+  let count seat ~map = walk seat (raw_map_count seat.it map)
   let remove ?pause seat ~map ~key = ask ?pause seat (fun () -> raw_map_take seat.it map key)
 end
 

@@ -43,7 +43,18 @@ module Weak_map : sig
   val find : ?pause:(unit -> unit) -> seat -> map:register -> key:register -> dst:register -> reply
 
   (** Binds the key to what [item] holds: [Done]; [Full] where there is no room; or [Bad_type]. *)
-  val replace : ?pause:(unit -> unit) -> seat -> map:register -> key:register -> item:register -> reply
+  val replace : seat -> map:register -> key:register -> item:register -> reply
+
+  (** Takes out what is left of keys that are dead: [Int], how much; or [Bad_type] where the register holds no map. {!replace} does so
+      by itself where room is short. Registers 8 to 15 are used between, as by [clean] and [count]. *)
+  val sweep : seat -> map:register -> reply
+
+  (** The same of a map that no other seat uses meanwhile: blocks of it that hold nothing go too. [Yes] where the map holds nothing
+      then, or [No]. *)
+  val clean : seat -> map:register -> reply
+
+  (** How many keys are bound: [Int]. *)
+  val count : seat -> map:register -> reply
 
   (** Takes out what the key is bound to: [Done]; [Empty] where it isn't; or [Bad_type]. *)
   val remove : ?pause:(unit -> unit) -> seat -> map:register -> key:register -> reply

@@ -1,10 +1,12 @@
 /* The calls of camlheap.h for OCaml. A seat is a custom block that holds a handle and a bed; the collector of OCaml frees them.
- * No call here waits, or lets another thread of OCaml run. */
+ * No call here waits, or lets another thread of OCaml run, but those of wait_for. */
 #define CAML_NAME_SPACE
 #include "camlheap.h"
 #include <caml/alloc.h>
 #include <caml/custom.h>
+#include <caml/memory.h>
 #include <caml/mlvalues.h>
+#include <caml/signals.h>
 
 typedef struct { camlheap_domain domain; camlheap_bed bed; } seat_parts;
 
@@ -97,11 +99,30 @@ value camlheap_seat_map_get(value seat, value dst, value map, value key) {
   return told(code, &reply);
 }
 
-value camlheap_seat_map_put(value seat, value map, value key, value item) {
+/* A call that may wait: meanwhile other threads of OCaml run, and the seat's block may move; so the handles are taken out. */
+typedef uint32_t waiting_call(camlheap_domain *domain, camlheap_bed *bed, const uint8_t *registers, camlheap_reply *reply);
+
+static value wait_for(value seat, waiting_call *call, const uint8_t *registers) {
+  CAMLparam1(seat);
   camlheap_reply reply = {0};
-  uint32_t code = camlheap_map_put(domain_of(seat), low(map), low(key), low(item), &reply);
-  return told(code, &reply);
+  seat_parts parts = *(seat_parts *)Data_custom_val(seat);
+  *(seat_parts *)Data_custom_val(seat) = (seat_parts){{0}, {0}};
+  caml_enter_blocking_section();
+  uint32_t code = call(&parts.domain, &parts.bed, registers, &reply);
+  caml_leave_blocking_section();
+  *(seat_parts *)Data_custom_val(seat) = parts;
+  CAMLreturn(told(code, &reply));
 }
+
+static uint32_t binds(camlheap_domain *d, camlheap_bed *b, const uint8_t *r, camlheap_reply *reply) { return camlheap_map_bind_beside(d, b, r[0], r[1], r[2], reply); }
+static uint32_t sweeps(camlheap_domain *d, camlheap_bed *b, const uint8_t *r, camlheap_reply *reply) { return camlheap_map_sweep_beside(d, b, r[0], reply); }
+static uint32_t cleans(camlheap_domain *d, camlheap_bed *b, const uint8_t *r, camlheap_reply *reply) { return camlheap_map_clean_beside(d, b, r[0], reply); }
+static uint32_t counts(camlheap_domain *d, camlheap_bed *b, const uint8_t *r, camlheap_reply *reply) { return camlheap_map_count_beside(d, b, r[0], reply); }
+
+value camlheap_seat_map_bind(value seat, value map, value key, value item) { return wait_for(seat, binds, (uint8_t[]){low(map), low(key), low(item)}); }
+value camlheap_seat_map_sweep(value seat, value map) { return wait_for(seat, sweeps, (uint8_t[]){low(map)}); }
+value camlheap_seat_map_clean(value seat, value map) { return wait_for(seat, cleans, (uint8_t[]){low(map)}); }
+value camlheap_seat_map_count(value seat, value map) { return wait_for(seat, counts, (uint8_t[]){low(map)}); }
 
 value camlheap_seat_map_take(value seat, value map, value key) {
   camlheap_reply reply = {0};

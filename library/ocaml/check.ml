@@ -54,9 +54,21 @@ let () =
   assert (Weak_map.find seat ~map:7 ~key:2 ~dst:3 = Bad_type && Weak_map.replace seat ~map:7 ~key:2 ~item:1 = Bad_type);
   assert (refusal (fun () -> Weak_map.find seat ~map:7 ~key:1 ~dst:8) = Some No_register);
   assert (refusal (fun () -> Weak_map.make seat ~dst:(-1)) = Some No_register);
+  let seat = (start { config with ephes = 200 }).(0) in
+  let perform command = ignore (perform seat command) in
+  ignore (Weak_map.make seat ~dst:7);
+  for value = 1 to 2000 do
+    List.iter perform [ Alloc { dst = 1; tag = 0; fields = 1 }; Put_int { dst = 2; value } ];
+    assert (Weak_map.replace seat ~map:7 ~key:1 ~item:2 = Done)
+  done;
+  perform Full_major;
+  assert (Weak_map.count seat ~map:7 = Int 1);
+  assert (match Weak_map.sweep seat ~map:7 with Int _ -> true | _ -> false);
+  List.iter perform [ Forget { dst = 1 }; Full_major ];
+  assert (Weak_map.clean seat ~map:7 = Yes && Weak_map.count seat ~map:6 = Bad_type);
   let tells act =
     let seat = (start { config with ephes = 8; finals = 4 }).(0) in
-    let perform command = ignore (perform seat command) in
+    let perform command = ignore (Camlheap.perform seat command) in
     let called = ref [] in
     ignore (Weak_map.make seat ~dst:7);
     List.iter perform
@@ -73,6 +85,7 @@ let () =
   List.iter tells
     [ ignore; (fun seat -> for _ = 1 to 10 do ignore (turn seat) done);
       (fun seat -> assert (Weak_map.replace seat ~map:7 ~key:2 ~item:2 = Done)); (fun seat -> rest seat; resume seat) ];
+  let perform seat command = Camlheap.perform seat command in
   let goes_on_without leaves =
     let seats = start { config with domains = 2; pools = 128 } in
     leaves seats;

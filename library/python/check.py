@@ -49,6 +49,22 @@ def maps():
     domain.finish()
 
 
+def sweeps():
+    """A map with few keys that live never fills up, however many die."""
+    (domain,) = camlheap.start(ephes=200)
+    held = domain.make_map(7)
+    for value in range(2000):
+        domain.perform("alloc", 1, 0, 1)
+        domain.perform("int", 2, value)
+        assert held.put(1, 2) == Reply("ok")
+    domain.perform("full_major")
+    assert held.count() == Reply("int", value=1) and held.sweep().kind == "int"
+    domain.perform("drop", 1)
+    domain.perform("full_major")
+    assert held.clean() == Reply("yes") and domain.map(6).count() == Reply("type")
+    domain.finish()
+
+
 def with_finalisers(called):
     """A domain in which finaliser 9 waits, one whose callable raises, and one that is kept in `called`."""
     (domain,) = camlheap.start()
@@ -142,6 +158,7 @@ def main():
         pass
     first.free(), second.free()
     maps()
+    sweeps()
     tells_each_once()
     goes_on_without_it()
     typed = iter(["", "alloc 99 0 1", "nonsense", "int 1 x", "stats", "help", *[""] * 12])

@@ -443,7 +443,35 @@ impl WeakMap<'_> {
     /// [`Reply::BadType`] where the first holds no block or the other nothing.
     pub fn insert(&mut self, key: Register, item: Register) -> Result<Reply, Refused> {
         let map = self.register;
-        self.seat.ask(|domain, reply| unsafe { sys::camlheap_map_put(domain, map, key, item, reply) })
+        self.walk(|domain, bed, reply| unsafe { sys::camlheap_wrapped_map_bind(domain, bed, map, key, item, reply) })
+    }
+
+    /// Takes out what is left of keys that are dead, and answers how much: [`Reply::Int`], or [`Reply::BadType`] where the register
+    /// holds no map. [`insert`](WeakMap::insert) does so by itself where room is short. Registers 8 to 15 are used between.
+    pub fn sweep(&mut self) -> Result<Reply, Refused> {
+        let map = self.register;
+        self.walk(|domain, bed, reply| unsafe { sys::camlheap_wrapped_map_sweep(domain, bed, map, reply) })
+    }
+
+    /// The same of a map that no other seat uses meanwhile: blocks of it that hold nothing go too. [`Reply::Yes`] where the map holds
+    /// nothing then, or [`Reply::No`].
+    pub fn clean(&mut self) -> Result<Reply, Refused> {
+        let map = self.register;
+        self.walk(|domain, bed, reply| unsafe { sys::camlheap_wrapped_map_clean(domain, bed, map, reply) })
+    }
+
+    /// How many keys are bound: [`Reply::Int`].
+    pub fn count(&mut self) -> Result<Reply, Refused> {
+        let map = self.register;
+        self.walk(|domain, bed, reply| unsafe { sys::camlheap_wrapped_map_count(domain, bed, map, reply) })
+    }
+
+    // A call that makes commands until it is done.
+    fn walk(&mut self, call: impl FnOnce(*mut sys::Domain, *mut sys::Bed, *mut sys::Reply) -> u32) -> Result<Reply, Refused> {
+        let mut reply = sys::Reply::default();
+        let told = call(&mut self.seat.raw, &mut self.seat.bed, &mut reply);
+        self.seat.hear();
+        answered(told, &reply)
     }
 
     /// Takes out what the key in a register is bound to: [`Reply::Done`]. [`Reply::Empty`] where it isn't bound, and

@@ -68,6 +68,10 @@ unsafe extern "C" {
     pub fn camlheap_map_get(domain: *mut Domain, dst: u8, map: u8, key: u8, reply: *mut Reply) -> u32;
     pub fn camlheap_map_put(domain: *mut Domain, map: u8, key: u8, item: u8, reply: *mut Reply) -> u32;
     pub fn camlheap_map_take(domain: *mut Domain, map: u8, key: u8, reply: *mut Reply) -> u32;
+    pub fn camlheap_wrapped_map_bind(domain: *mut Domain, bed: *mut Bed, map: u8, key: u8, item: u8, reply: *mut Reply) -> u32;
+    pub fn camlheap_wrapped_map_sweep(domain: *mut Domain, bed: *mut Bed, map: u8, reply: *mut Reply) -> u32;
+    pub fn camlheap_wrapped_map_clean(domain: *mut Domain, bed: *mut Bed, map: u8, reply: *mut Reply) -> u32;
+    pub fn camlheap_wrapped_map_count(domain: *mut Domain, bed: *mut Bed, map: u8, reply: *mut Reply) -> u32;
     pub fn camlheap_close(domain: *mut Domain) -> u32;
     pub fn camlheap_free(domain: *mut Domain);
     pub fn camlheap_first_bed(bed: *mut Bed) -> u32;

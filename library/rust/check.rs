@@ -94,6 +94,25 @@ fn maps() -> Result<(), Refused> {
     seat.finish()
 }
 
+// A map with few keys that live never fills up, however many die.
+fn sweeps() -> Result<(), Refused> {
+    let mut seat = start(Config { ephes: 200, ..CONFIG })?.remove(0);
+    seat.make_map(7)?;
+    for value in 0..2000 {
+        seat.perform(Command::Alloc { dst: 1, tag: 0, fields: 1 })?;
+        seat.perform(Command::PutInt { dst: 2, value })?;
+        assert_eq!(seat.map(7).insert(1, 2)?, Reply::Done);
+    }
+    seat.perform(Command::FullMajor)?;
+    assert_eq!(seat.map(7).count()?, Reply::Int(1));
+    assert!(matches!(seat.map(7).sweep()?, Reply::Int(_)));
+    seat.perform(Command::Forget { dst: 1 })?;
+    seat.perform(Command::FullMajor)?;
+    assert_eq!(seat.map(7).clean()?, Reply::Yes);
+    assert_eq!(seat.map(6).count()?, Reply::BadType);
+    seat.finish()
+}
+
 // What a key is bound to goes with it, and not before.
 fn binds_weakly() -> Result<(), Refused> {
     let mut seat = start(Config { ephes: 8, ..CONFIG })?.remove(0);
@@ -192,6 +211,7 @@ fn goes_on_without_it() -> Result<(), Refused> {
 fn main() -> Result<(), Refused> {
     starts();
     maps()?;
+    sweeps()?;
     binds_weakly()?;
     tells_each_once()?;
     tells_at_the_end()?;

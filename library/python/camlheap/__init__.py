@@ -206,7 +206,21 @@ class WeakMap:
 
     def put(self, key: int, item: int) -> Reply:
         """Binds the key in a register to what another holds: `ok`; `full` where there is no room; or `type`."""
-        return self._domain._ask("put", self.register, key, item)
+        return self._domain._walk("bind", self.register, key, item)
+
+    def sweep(self) -> Reply:
+        """Takes out what is left of keys that are dead: `int`, how much; or `type` where the register holds no map. `put` does so by
+        itself where room is short. Registers 8 to 15 are used between."""
+        return self._domain._walk("sweep", self.register)
+
+    def clean(self) -> Reply:
+        """The same of a map that no other domain uses meanwhile: blocks of it that hold nothing go too. `yes` where the map holds
+        nothing then, or `no`."""
+        return self._domain._walk("clean", self.register)
+
+    def count(self) -> Reply:
+        """How many keys are bound: `int`."""
+        return self._domain._walk("count", self.register)
 
     def take(self, key: int) -> Reply:
         """Takes out what the key in a register is bound to: `ok`; `none` where it isn't; or `type`."""
@@ -323,6 +337,17 @@ class Domain:
         self._hear()
         found, self._told = self._told, []
         return found
+
+    def _walk(self, call: str, *registers: int) -> Reply:
+        """A call on a map that makes commands until it is done."""
+        if not all(_fits(it, _c.U8) for it in registers):
+            raise NoRegister(23)
+        reply = _c.Reply()
+        told = getattr(self._library, f"camlheap_wrapped_map_{call}")(self._raw, self._bed, *registers, reply)
+        self._hear()
+        if told == AGAIN:
+            raise NotNow(told)
+        return _reply(reply) if told == DONE else _refuse(told)
 
     def _ask(self, call: str, *registers: int) -> Reply:
         """Asks a call on a map anew while that helps: behind turns, and then behind collections, which make room."""

@@ -63,6 +63,9 @@ def library() -> ctypes.CDLL:
     it.camlheap_map_make.argtypes = [domain, U8, reply]
     it.camlheap_map_take.argtypes = [domain, U8, U8, reply]
     it.camlheap_map_get.argtypes = it.camlheap_map_put.argtypes = [domain, U8, U8, U8, reply]
+    it.camlheap_wrapped_map_bind.argtypes = [domain, domain, U8, U8, U8, reply]
+    for name in ("sweep", "clean", "count"):
+        getattr(it, f"camlheap_wrapped_map_{name}").argtypes = [domain, domain, U8, reply]
     for name in ("another_bed", "rest", "resume", "leave"):
         getattr(it, f"camlheap_{name}").argtypes = [domain, domain]
     for name in ("turn", "close", "free", "first_bed", "attend", "free_bed"):
