@@ -31,6 +31,12 @@ static inline const char *heap_refusal(uint32_t told) {
   return told > CAMLHEAP_OUTSIDE ? "a size of the heap is outside its range" : why[told - CAMLHEAP_CLOSED];
 }
 
+/* Tells heap_ran of the finalisers that ran, in whichever call. */
+static inline void heap_hear(heap *h) {
+  camlheap_reply ran;
+  while (camlheap_take_ran(&h->domain, &ran) == CAMLHEAP_DONE) heap_ran(h, ran.kind == CAMLHEAP_LAST, ran.number);
+}
+
 /* What is left of a command that isn't made at once: turns until it is, and the finalisers that ran before it. Where there
  * is no room for what it registers, a complete collection may make some; `command` is NULL for those that register nothing. */
 static __attribute__((noinline)) void heap_finish(heap *h, uint32_t told, const camlheap_command *command, camlheap_reply *reply) {
@@ -43,8 +49,7 @@ static __attribute__((noinline)) void heap_finish(heap *h, uint32_t told, const 
     told = camlheap_run(&h->domain, 64, reply);
   }
   if (told != CAMLHEAP_DONE) heap_failed(h, heap_refusal(told));
-  camlheap_reply ran;
-  while (camlheap_take_ran(&h->domain, &ran) == CAMLHEAP_DONE) heap_ran(h, ran.kind == CAMLHEAP_LAST, ran.number);
+  heap_hear(h);
 }
 
 static inline item heap_item(camlheap_reply reply) {
@@ -148,5 +153,8 @@ static inline void heap_stop(heap *const *domains, int count) {
     ended = 0;
     for (int i = 0; i < count; i++) ended += camlheap_turn(&domains[i]->domain) == CAMLHEAP_ENDED;
   }
-  for (int i = 0; i < count; i++) camlheap_free(&domains[i]->domain);
+  for (int i = 0; i < count; i++) {
+    heap_hear(domains[i]);
+    camlheap_free(&domains[i]->domain);
+  }
 }

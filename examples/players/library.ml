@@ -1,6 +1,6 @@
 (* Plays scripts on this heap through the library for OCaml, a systhread for each domain: `library_ocaml can`,
    `library_ocaml run --domains N`. *)
-open Vikheap
+open Camlheap
 
 let perform = perform ~pause:Thread.yield
 let finish = finish ~pause:Thread.yield
