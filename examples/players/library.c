@@ -87,28 +87,26 @@ static void say(FILE *out, const camlheap_reply *reply) {
   fputc('\n', out);
 }
 
-/* Tells of the finalisers that have run since the last command was handed in, from a place on, and answers how many they are. */
-static size_t say_ran(camlheap_domain *domain, size_t from, FILE *out) {
+/* Tells of the finalisers that have run and weren't told so far. */
+static void say_ran(camlheap_domain *domain, FILE *out) {
   camlheap_reply ran;
-  for (; camlheap_ran(domain, from, &ran) == CAMLHEAP_DONE; from++) say(out, &ran);
-  return from;
+  while (camlheap_take_ran(domain, &ran) == CAMLHEAP_DONE) say(out, &ran);
 }
 
 static void *play(void *own) {
   struct section *section = own;
   FILE *out = open_memstream(&section->out, &section->length);
-  size_t told = 0;
   for (size_t i = 0; i < section->count; i++) {
     camlheap_reply reply;
     if (camlheap_perform(&section->domain, &section->commands[i], &reply) != CAMLHEAP_DONE) fail("a command isn't taken");
-    told = say_ran(&section->domain, 0, out);
+    say_ran(&section->domain, out);
     say(out, &reply);
   }
   uint32_t turned;
   if (camlheap_close(&section->domain) != CAMLHEAP_DONE) fail("a domain can't be closed");
   while ((turned = camlheap_turn(&section->domain)) != CAMLHEAP_ENDED)
     if (turned == CAMLHEAP_WAITING) CAMLHEAP_PAUSE();
-  say_ran(&section->domain, told, out);
+  say_ran(&section->domain, out);
   camlheap_free(&section->domain);
   fclose(out);
   return NULL;

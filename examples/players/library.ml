@@ -91,14 +91,22 @@ let sections text domains =
   List.iteri
     (fun at line ->
       if at > 0 then
-        match Scanf.sscanf_opt line "domain %d" Fun.id with
-        | Some number -> here := number
-        | None -> found.(!here) <- command line :: found.(!here))
+        match String.split_on_char ' ' line with
+        | [ "domain"; number ] -> here := int_of_string number
+        | _ -> found.(!here) <- command line :: found.(!here))
     (String.split_on_char '\n' (String.trim text));
   Array.map List.rev found
 
+let input () =
+  let text = Buffer.create 65536 in
+  let rec go () =
+    Buffer.add_channel text stdin 1;
+    go ()
+  in
+  try go () with End_of_file -> Buffer.contents text
+
 let run domains =
-  let sections = sections (In_channel.input_all stdin) domains in
+  let sections = sections (input ()) domains in
   let most = Array.fold_left (fun most own -> max most (List.length own)) 16 sections in
   let seats = start { domains; minor_words = 4096; pools = 512; finals = most; ephes = most } in
   let outs = Array.map (fun _ -> Buffer.create 4096) seats in
