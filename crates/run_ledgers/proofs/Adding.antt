@@ -1,9 +1,10 @@
 -- What each call adds to a domain's front.
-use Rattle.std.proofs.Common.{◌≡◌, ◌≢◌, ◌∙◌, ℕ, Bool, true, false, not, IsTrue, List, [], ◌∷◌, ◌++◌, map, refl, sym, ap, append-nil, append_assoc, eq-eqb}
-use Rattle.std.specs.Prelude.{cond, ◌==◌, ◌||◌, ◌&&◌}
+use Rattle.std.proofs.Common.{◌≡◌, ◌∙◌, ℕ, Bool, true, false, not, IsTrue, List, [], ◌∷◌, ◌++◌, map, refl, sym, ap, subst, Some, None, append-nil, append_assoc, eq-eqb}
+use Rattle.std.proofs.lemmas.List.{append_cancel_left}
+use Rattle.std.specs.Prelude.{cond, ◌==◌, ◌||◌}
 use Rattle.model_core.specs.declared.command.Command as model
 use Rattle.model_core.specs.declared.entry.Entry.{Entry}
-use Rattle.model_core.specs.declared.entry.Entry.TheVariants.{Command, Cut, Collected, Done, End, Last, Queue, Ran, Seal, Wipe}
+use Rattle.model_core.specs.declared.entry.Entry.TheVariants.{Command, End, Ran}
 use Rattle.model_core.specs.declared.reply.Reply.{Reply}
 use Rattle.model_core.specs.declared.reply.Applied.{Applied}
 use Rattle.model_core.specs.declared.reply.Applied.TheVariants.{Replied, Silent}
@@ -11,34 +12,29 @@ use Rattle.model_core.specs.declared.state.Sizes.{Sizes}
 use Rattle.model_core.specs.declared.state.State.{State}
 use Rattle.model_core.specs.Domains.{opening}
 use Rattle.model_core.specs.Entries.{next, reply}
-use Rattle.model_core.specs.Fronts.{IsFrontOf, NoneOf}
-use Rattle.model_core.specs.History.{IsPrefix, command_of, commands, is_entry_of, replies_from, reply_list, state_after}
+use Rattle.model_core.specs.Fronts.{Answers, IsFrontOf, NoneOf}
+use Rattle.model_core.specs.History.{IsPrefix, command_of, commands, is_entry_of, reply_list, state_after}
 use Rattle.model_core.proofs.Graphs.GraphLemmas.{and_parts}
 use Rattle.model_core.proofs.Histories.HistoryLemmas.{commands-append, commands-others, commands-push}
-use Rattle.run_turns.specs.Handed.{Finalised, OnlyRuns, PerformedOn}
+use Rattle.heap_rule.specs.declared.config.Config.{Config}
+use Rattle.heap_rule.specs.Limits.{sizes_in}
+use Rattle.run_turns.specs.Handed.{OnlyRuns}
 use Rattle.run_turns.specs.Kept.{answers, finalised, is_command_of, is_run_of, replies_to}
-use Rattle.run_turns.specs.Runs.{Appended, RunView, Stretches}
+use Rattle.run_turns.specs.Runs.{Appended, wanting}
 use Rattle.run_turns.specs.Runs.Stretches.{ByOthers, ByCommand, ByFinaliser, ByEnd, BySection}
 use Rattle.run_turns.proofs.Handed.{finalised_commands, performed_commands}
+use Rattle.run_turns.proofs.Adding.{entry_picked, runs_replies, taken_first}
+use Rattle.run_turns.proofs.AtOnce.{has_waited}
 use Rattle.run_turns.proofs.Kept.{picked_front, picks_commands, picks_runs, replies_to-append}
-use Rattle.run_ledgers.specs.Ledgers.{Adds, CommandsAdd, FinalisersAdd, IsLedger, Ledger, LedgersFollow, LedgersStand, Tells, TurnAdds, TurnsAdd, all_ran, answers_in, commands_in, followed, made_behind, no_ledger, one_made}
+use Rattle.run_turns.proofs.Turning.{stood}
+use Rattle.run_ledgers.specs.Ledgers.{Adds, CommandsAdd, FinalisersAdd, LedgersFollow, LedgersStand, NowAdds, RanTaken, RanWaits, TurnsAdd, all_ran, answers_in, commands_in, no_ledger, one_made}
 use Rattle.run_ledgers.specs.Ledgers.Tells.{TellsNothing, TellsRan, TellsReply}
-
--- only entries of domain d are picked
-abbrev PicksOf : ℕ → (Entry → Bool) → Type 0
-PicksOf d p = (e : Entry) → is_entry_of d e ≡ false → p e ≡ false
 
 others_commands : (d : ℕ) (old between : List Entry) → NoneOf d between → commands (old ++ between) d ≡ commands old d
 others_commands d old between none = commands-append old between d ∙ (ap (λ t. commands old d ++ t) (commands-others between d none) ∙ append-nil (commands old d))
 
 entry_commands : (z : Sizes) (d : ℕ) (old new : List Entry) (e : Entry) (a : Applied) → Appended z d old new e a → commands new d ≡ commands old d ++ command_of d e
 entry_commands z d old new e a x = ap (λ h. commands h d) x.appends ∙ (commands-push (old ++ x.between) e d ∙ ap (λ t. t ++ command_of d e) (others_commands d old x.between x.others))
-
-entry_picked : (d : ℕ) (p : Entry → Bool) → PicksOf d p → (z : Sizes) (old new : List Entry) (e : Entry) (a : Applied) → Appended z d old new e a → replies_to p (opening z) new ≡ replies_to p (opening z) old ++ cond (p e) (reply_list a) []
-entry_picked d p picks z old new e a x =
-    let before : replies_to p (opening z) (old ++ x.between) ≡ replies_to p (opening z) old = picked_front d p picks z (old ++ x.between) old (record { rest = x.between; appends = refl; others = x.others }) in
-    ap (λ (h : List Entry). replies_to p (opening z) h) x.appends ∙ (replies_to-append p (opening z) (old ++ x.between) (e ∷ [])
-    ∙ (λ i. before i ++ append-nil (cond (p e) (reply_list (x.replies i)) []) i))
 
 grown : (z : Sizes) (d : ℕ) (old new : List Entry) (e : Entry) (a : Applied) → Appended z d old new e a → IsPrefix old new
 grown z d old new e a x = record { rest = x.between ++ e ∷ []; appends = x.appends ∙ append_assoc old x.between (e ∷ []) }
@@ -95,27 +91,7 @@ turns_add z old new plain (ByFinaliser m) = record {
 turns_add z old new plain (ByEnd m) = record { ledger = no_ledger; adds = adds_end z old.token.view.own.number old.token.view.seen.front new.token.view.seen.front m.front; told = TellsNothing refl m.next m.replies m.ran }
 turns_add z old new plain (BySection m) = absurd (plain m.sectioned)
 
--- among others' entries and runs the replies are those of the runs
-one_run : (d : ℕ) (s : State) (e : Entry) → IsTrue (not (is_entry_of d e) || is_run_of d e) → cond (is_run_of d e) (reply_list (reply s e)) [] ≡ cond (is_entry_of d e) (reply_list (reply s e)) []
-one_run d s (Command k c full) runs = by (k == d) runs
-  where
-    by : (b : Bool) → IsTrue (not b || false) → [] ≡ cond b (reply_list (reply s (Command k c full))) []
-    by true is = cc
-    by false is = refl
-one_run d s (End k) runs = by (k == d) runs
-  where
-    by : (b : Bool) → IsTrue (not b || false) → [] ≡ cond b (reply_list (reply s (End k))) []
-    by true is = cc
-    by false is = refl
-one_run d s e runs = refl
-
-runs_replies : (d : ℕ) (s : State) (h : List Entry) → OnlyRuns d h → replies_to (is_run_of d) s h ≡ replies_from s h d
-runs_replies d s [] runs = refl
-runs_replies d s (e ∷ h) runs =
-    let parts = and_parts (not (is_entry_of d e) || is_run_of d e) _ runs in
-    (λ i. one_run d s e parts.0 i ++ runs_replies d (next s e) h parts.1 i)
-
--- and no command is answered there
+-- among others' entries and runs no command is answered
 one_unanswered : (d : ℕ) (s : State) (e : Entry) → IsTrue (not (is_entry_of d e) || is_run_of d e) → cond (is_command_of d e) (reply_list (reply s e)) [] ≡ []
 one_unanswered d s (Command k c full) runs = by (k == d) runs
   where
@@ -168,3 +144,24 @@ ledgers_stand z d history front l is f = record {
   answers_are = picked_front d (is_command_of d) (picks_commands d) z history front f ∙ is.answers_are;
   ran_are = picked_front d (is_run_of d) (picks_runs d) z history front f ∙ is.ran_are;
 }
+
+-- a command that is made at once, or put off
+pub now_adds : NowAdds
+now_adds h old new c (Some reply) here m =
+    let z : Sizes = sizes_in h.config in
+    let d : ℕ = old.token.view.own.number in
+    let front : List Entry = old.token.view.seen.front in
+    let st = stood h (wanting old 0).token new.token c false reply m.made.1.stands in
+    let a : Answers z d front new.token.view.seen.front (Command d c st.0) (Replied reply) = subst (λ (k : Config). Answers (sizes_in k) d front new.token.view.seen.front (Command d c st.0) (Replied reply)) here.1 st.1 in
+    adds_command z d front new.token.view.seen.front c st.0 reply (record { between = a.between; others = a.others; appends = a.appends; legal = a.legal; replies = a.replies })
+now_adds h old new c None here off = adds_none (sizes_in h.config) old.token.view.own.number old.token.view.seen.front new.token.view.seen.front (has_waited h old new c off).front
+
+-- what a call adds waits behind what did
+pub ran_waits : RanWaits
+ran_waits z old new l m taken are adds ran =
+    let same : m.ran ≡ ran.more = append_cancel_left (finalised z old.token.view.seen.front old.token.view.own.number) m.ran ran.more (sym adds.ran_are ∙ ran.told) in
+    (λ i. are i ++ same i) ∙ (append_assoc taken old.ran ran.more ∙ ap (λ (rs : List Reply). taken ++ rs) (sym ran.waits))
+
+-- and what is taken was the oldest that did
+pub ran_taken : RanTaken
+ran_taken r l taken reply are first = taken_first l.ran taken r.ran reply are first

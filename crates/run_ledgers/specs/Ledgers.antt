@@ -1,15 +1,17 @@
 -- What one domain's calls have made, and what each adds.
-use Rattle.std.specs.Prelude.{◌≡◌, ◌≢◌, ℕ, ◌+◌, List, [], ◌∷◌, ◌++◌, map, slice_get, Some}
+use Rattle.std.specs.Prelude.{◌≡◌, ◌≢◌, ℕ, ◌+◌, List, [], ◌∷◌, ◌++◌, Option, drop, map, slice_get, None, Some}
 use Rattle.model_core.specs.declared.command.Command as model
 use Rattle.model_core.specs.declared.entry.Entry.{Entry}
 use Rattle.model_core.specs.declared.reply.Reply.{Reply}
 use Rattle.model_core.specs.declared.state.Sizes.{Sizes}
 use Rattle.model_core.specs.Fronts.{IsFrontOf}
 use Rattle.model_core.specs.History.{IsPrefix, commands}
+use Rattle.heap_rule.specs.Limits.{sizes_in}
+use Rattle.heap_rule.specs.Token.{IsIn, SharedHeap}
 use Rattle.run_turns.specs.declared.supply.Supply.TheVariants.{Section}
 use Rattle.run_turns.specs.Handed.{Finalised, PerformedOn}
 use Rattle.run_turns.specs.Kept.{answers, finalised}
-use Rattle.run_turns.specs.Runs.{RunView, Stretches, ran_with, said_with}
+use Rattle.run_turns.specs.Runs.{AddsRan, NowAnswers, RunView, Stretches, ran_with, said_with}
 
 -- the commands that were made, with their replies, and the replies of the finalisers that ran
 pub record Ledger : Type 0 where
@@ -27,6 +29,11 @@ all_ran ran = record { made = []; ran = ran }
 
 abbrev pub made_behind : List Reply → model.Command → Reply → Ledger
 made_behind ran c r = record { made = (c, r) ∷ []; ran = ran }
+
+-- what a command that was handed in to be made at once adds: itself with its reply, or nothing where it is put off
+abbrev pub now_made : model.Command → Option Reply → Ledger
+now_made c (Some r) = one_made c r
+now_made c None = no_ledger
 
 -- one behind the other
 abbrev pub followed : Ledger → Ledger → Ledger
@@ -62,6 +69,10 @@ pub record TurnAdds (z : Sizes) (old new : RunView) : Type 0 where
   pub adds : Adds z old.token.view.own.number old.token.view.seen.front new.token.view.seen.front ledger
   pub told : Tells old new ledger
 
+-- the replies of finalisers in a ledger are those that were taken from a run, and then those that wait there
+abbrev pub AreTaken : Ledger → List Reply → RunView → Type 0
+AreTaken l taken r = l.ran ≡ taken ++ r.ran
+
 abbrev pub TurnsAdd : Type 0
 TurnsAdd = (z : Sizes) (old new : RunView) → old.supply ≢ Section → Stretches z old new → TurnAdds z old new
 
@@ -76,3 +87,12 @@ LedgersFollow = (z : Sizes) (d : ℕ) (old new : List Entry) (l m : Ledger) → 
 
 abbrev pub LedgersStand : Type 0
 LedgersStand = (z : Sizes) (d : ℕ) (history front : List Entry) (l : Ledger) → IsLedger z d front l → IsFrontOf d history front → IsLedger z d history l
+
+abbrev pub NowAdds : Type 0
+NowAdds = (h : SharedHeap) (old new : RunView) (c : model.Command) (result : Option Reply) → IsIn old.token h → NowAnswers h old new c result → Adds (sizes_in h.config) old.token.view.own.number old.token.view.seen.front new.token.view.seen.front (now_made c result)
+
+abbrev pub RanWaits : Type 0
+RanWaits = (z : Sizes) (old new : RunView) (l m : Ledger) (taken : List Reply) → AreTaken l taken old → Adds z old.token.view.own.number old.token.view.seen.front new.token.view.seen.front m → AddsRan z old new → AreTaken (followed l m) taken new
+
+abbrev pub RanTaken : Type 0
+RanTaken = (r : RunView) (l : Ledger) (taken : List Reply) (reply : Reply) → AreTaken l taken r → Some reply ≡ slice_get r.ran 0 → AreTaken l (taken ++ reply ∷ []) (record r { ran = drop 1 r.ran })

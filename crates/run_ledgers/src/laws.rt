@@ -1,5 +1,5 @@
 //! Laws of ledgers. Each function's contract is one law, and it does nothing else.
-ghost use Rattle.run_ledgers.specs.Ledgers.{CommandsAdd, FinalisersAdd, LedgersFollow, LedgersStand, TurnsAdd};
+ghost use Rattle.run_ledgers.specs.Ledgers.{CommandsAdd, FinalisersAdd, LedgersFollow, LedgersStand, NowAdds, RanTaken, RanWaits, TurnsAdd};
 
 /// A turn adds the command that it made with its reply, or the reply of one finaliser, or nothing; and which of these the run itself tells.
 pub fn turns_add()
@@ -24,4 +24,19 @@ pub fn ledgers_follow()
 /// What stands in a domain's front stands in each history that begins with it and has no other entry of it.
 pub fn ledgers_stand()
     ensures { LedgersStand }
+{}
+
+/// A command that is made at once adds itself with its reply, and one that is put off adds nothing.
+pub fn now_adds()
+    ensures { NowAdds }
+{}
+
+/// What was taken of the replies of finalisers and what waits are together the ledger's: what a call adds to the ledger waits behind what did.
+pub fn ran_waits()
+    ensures { RanWaits }
+{}
+
+/// So they are where the oldest that waits is taken.
+pub fn ran_taken()
+    ensures { RanTaken }
 {}

@@ -3,4 +3,7 @@
 
 mod laws;
 
-pub use laws::{commands_add, finalisers_add, ledgers_follow, ledgers_stand, turns_add};
+pub use laws::{
+    commands_add, finalisers_add, ledgers_follow, ledgers_stand, now_adds, ran_taken, ran_waits,
+    turns_add,
+};

@@ -1,6 +1,6 @@
 -- The start of a heap: each domain has a seat.
 use Rattle.run_turns.specs.Runs.{RunView}
-use Rattle.std.proofs.Common.{◌≡◌, ◌∙◌, ℕ, zero, suc, ◌+◌, ◌-◌, ◌<◌, ◌≤◌, List, [], ◌∷◌, length, map, refl, sym, ap, arith}
+use Rattle.std.proofs.Common.{◌≡◌, ◌∙◌, ℕ, zero, suc, ◌+◌, ◌-◌, ◌≤◌, List, [], ◌∷◌, length, map, refl, sym, ap, arith}
 use Rattle.std.specs.Prelude.{remove, slice_index_or}
 use Rattle.std.specs.List.{AllByRecursion}
 use Rattle.heap_rule.specs.declared.config.Config.{Config}

@@ -1,5 +1,5 @@
 -- What the clauses of seats refuse.
-use Rattle.std.proofs.Common.{◌≡◌, ◌∙◌, ◌++◌, ℕ, zero, suc, List, [], ◌∷◌, length, ap, sym, subst, drop, Some}
+use Rattle.std.proofs.Common.{◌≡◌, ◌∙◌, ℕ, zero, suc, List, [], ◌∷◌, length, ap, sym, subst, drop, Some}
 use Rattle.std.specs.Prelude.{IsTrue, slice_get}
 use Rattle.std.specs.List.{list_any}
 use Rattle.model_core.specs.declared.entry.Entry.{Entry}
@@ -10,10 +10,7 @@ use Rattle.heap_rule.specs.Limits.{sizes_in}
 use Rattle.run_seats.specs.Seating.{GoesAlong, SeatView}
 use Rattle.run_seats.specs.Stopping.{Stops, StopsEach}
 use Rattle.run_turns.specs.Runs.{is_end_of}
-
-behind : {X : Type 0} → (xs ys : List X) → drop (length xs) (xs ++ ys) ≡ ys
-behind [] ys = cc
-behind (x ∷ xs) ys = behind xs ys
+use Rattle.run_seats.proofs.Seated.{behind}
 
 -- what a seat tells of finalisers that ran while it rested is what the history has of them, in order: a body that drops the reply of one, or tells it twice, is refused
 pub what_ran_is_told : (old new : SeatView) → GoesAlong old new → drop (length old.ran) new.ran ≡ drop (length (replies (sizes_in old.heap.config) old.front old.number)) (replies (sizes_in old.heap.config) new.front old.number)

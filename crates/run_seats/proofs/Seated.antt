@@ -1,5 +1,5 @@
 -- A seat and its run.
-use Rattle.std.proofs.Common.{◌≡◌, ◌∙◌, ℕ, ◌+◌, ◌≤◌, [], ◌∷◌, ◌++◌, drop, length, Some, refl, sym, ap, subst, arith}
+use Rattle.std.proofs.Common.{◌≡◌, ◌∙◌, ◌+◌, ◌≤◌, List, [], ◌∷◌, ◌++◌, drop, length, length-append, Some, refl, sym, ap, subst, arith}
 use Rattle.std.specs.Prelude.{Option}
 use Rattle.atomic_table.specs.Seated.{TableId}
 use Rattle.model_core.specs.declared.command.Command as model
@@ -9,8 +9,9 @@ use Rattle.heap_rule.specs.Limits.{sizes_in}
 use Rattle.heap_rule.specs.declared.config.Config.{Config}
 use Rattle.heap_rule.specs.Token.{SharedHeap, IsIn}
 use Rattle.run_turns.specs.Handed.{PerformedOn}
-use Rattle.run_turns.specs.Runs.{IsRun, RunView, registrations_in}
+use Rattle.run_turns.specs.Runs.{AddsRan, RunView}
 use Rattle.run_turns.specs.Tries.{registrations_of}
+use Rattle.run_turns.proofs.Adding.{performed_adds}
 use Rattle.run_turns.proofs.Handed.{finalised_commands, finalised_replies, performed_commands, performed_replies}
 use Rattle.run_seats.specs.Pool.Keeping.{KeeperView}
 use Rattle.run_seats.specs.declared.idle.Idle.{Idle}
@@ -19,6 +20,10 @@ use Rattle.run_turns.specs.Singly.Driving.{Answered}
 use Rattle.run_seats.specs.Shared.Idling.{IsIdleIn, StaysIdle, finals_of}
 use Rattle.run_seats.specs.Idling.{KeepsHeap}
 use Rattle.run_seats.specs.Seating.{GoesAlong, IsResting, IsSeat, IsSeatOf, SeatView, SeatsView, heap_of, seat_of, seat_with}
+
+pub behind : {X : Type 0} → (xs ys : List X) → drop (length xs) (xs ++ ys) ≡ ys
+behind [] ys = cc
+behind (x ∷ xs) ys = behind xs ys
 
 -- a seat of these seats: its run is in their heap, and its keeper is one of their pool
 pub record Sits (heap : SharedHeap) (pool : TableId) (r : RunView) (k : KeeperView Idle) : Type 0 where
@@ -67,23 +72,31 @@ pub answered_idle : (h : SharedHeap) (r n : RunView) (c : model.Command) (reply 
 answered_idle h r n c reply a = record { here = a.here; more = a.more; done = a.done }
 
 -- a command that was made
-module _ (h : SharedHeap) (r n : RunView) (c : model.Command) (reply : Reply) (was : IsIn r.token h) (a : Answered h r.token.view c reply n) where
-  pub performs : PerformedOn (sizes_in r.token.config) r.token.view.own.number r.token.view.seen.front n.token.view.seen.front c n.ran reply
-  performs = subst (λ (k : Config). PerformedOn (sizes_in k) r.token.view.own.number r.token.view.seen.front n.token.view.seen.front c n.ran reply) (sym was.1) a.performed
+module _ (h : SharedHeap) (r n : RunView) (c : model.Command) (reply : Reply) (was : IsIn r.token h) (a : Answered h r.token.view c reply n) (adds : AddsRan (sizes_in h.config) r n) where
+  waits : n.ran ≡ r.ran ++ a.ran
+  waits = performed_adds (sizes_in h.config) r n c a.ran reply a.performed adds
+
+  since : drop (length r.ran) n.ran ≡ a.ran
+  since = ap (drop (length r.ran)) waits ∙ behind r.ran a.ran
+
+  pub waits_behind : n.ran ≡ r.ran ++ drop (length r.ran) n.ran
+  waits_behind = waits ∙ ap (λ (rs : List Reply). r.ran ++ rs) (sym since)
+
+  pub performs : PerformedOn (sizes_in r.token.config) r.token.view.own.number r.token.view.seen.front n.token.view.seen.front c (drop (length r.ran) n.ran) reply
+  performs = subst (λ (w : Config × List Reply). PerformedOn (sizes_in w.0) r.token.view.own.number r.token.view.seen.front n.token.view.seen.front c w.1 reply) (λ i. (sym was.1 i, sym since i)) a.performed
 
   pub made : commands n.token.view.seen.front r.token.view.own.number ≡ commands r.token.view.seen.front r.token.view.own.number ++ c ∷ []
-  made = performed_commands (sizes_in r.token.config) r.token.view.own.number r.token.view.seen.front n.token.view.seen.front c n.ran reply performs
+  made = performed_commands (sizes_in r.token.config) r.token.view.own.number r.token.view.seen.front n.token.view.seen.front c (drop (length r.ran) n.ran) reply performs
 
-  pub given : replies (sizes_in r.token.config) n.token.view.seen.front r.token.view.own.number ≡ replies (sizes_in r.token.config) r.token.view.seen.front r.token.view.own.number ++ (n.ran ++ reply ∷ [])
-  given = performed_replies (sizes_in r.token.config) r.token.view.own.number r.token.view.seen.front n.token.view.seen.front c n.ran reply performs
+  pub given : replies (sizes_in r.token.config) n.token.view.seen.front r.token.view.own.number ≡ replies (sizes_in r.token.config) r.token.view.seen.front r.token.view.own.number ++ (drop (length r.ran) n.ran ++ reply ∷ [])
+  given = performed_replies (sizes_in r.token.config) r.token.view.own.number r.token.view.seen.front n.token.view.seen.front c (drop (length r.ran) n.ran) reply performs
 
-  pub finals_left : IsRun r → finals_of r + length n.ran ≤ finals_of n + registrations_of c
-  finals_left is =
-      let few = is.enlists in
-      let left : ℕ = registrations_in (drop r.next r.commands) in
+  pub finals_left : finals_of r ≤ finals_of n + registrations_of c
+  finals_left =
       let same : n.token.config.finals ≡ r.token.config.finals = ap (λ (k : Config). k.finals) (a.here.1 ∙ sym was.1) in
       let listed = a.listed in
-      omega (arith, few, same, listed)
+      let grown = ap (λ (rs : List Reply). length rs) waits ∙ length-append r.ran a.ran in
+      omega (arith, same, listed, grown)
 
 -- a run that made no command
 pub along : (pool other : TableId) (r n : RunView) → StaysIdle r n → GoesAlong (seat_with pool r) (seat_with other n)

@@ -1,5 +1,5 @@
 -- Seats as their owners see them.
-use Rattle.std.specs.Prelude.{◌≡◌, ℕ, zero, suc, ◌+◌, ◌-◌, List, [], ◌∷◌, ◌++◌, length, Option, Some, None}
+use Rattle.std.specs.Prelude.{◌≡◌, ℕ, zero, suc, ◌+◌, ◌-◌, List, [], ◌∷◌, ◌++◌, drop, length, Option, Some, None}
 use Rattle.std.specs.List.{AllByRecursion}
 use Rattle.atomic_table.specs.Seated.{TableId}
 use Rattle.model_core.specs.declared.command.Command as model
@@ -27,7 +27,7 @@ pub record SeatsView : Type 0 where
   pub heap : SharedHeap
   pub pool : TableId
 
--- a seat: its heap, the pool, the domain's number, what the domain has seen of the history, how many labels were given out, how many more ephemerons and finalisers fit, what the domain counts, and the replies of the finalisers that have run since the last command was handed in
+-- a seat: its heap, the pool, the domain's number, what the domain has seen of the history, how many labels were given out, how many more ephemerons and finalisers fit, what the domain counts, and the replies of the finalisers that ran and weren't taken so far
 pub record SeatView : Type 0 where
   pub heap : SharedHeap
   pub pool : TableId
@@ -87,25 +87,30 @@ IsSameSeat old new = new ≡ record old { front = new.front; labels = new.labels
 abbrev pub IsSameUnlabelled : SeatView → SeatView → Type 0
 IsSameUnlabelled old new = new ≡ record old { front = new.front; room = new.room; finals = new.finals; stats = new.stats; ran = new.ran }
 
--- a command was made on a seat, once, behind the finalisers that the seat tells, and this is its reply
-abbrev pub PerformsOn : SeatView → SeatView → model.Command → Reply → Type 0
-PerformsOn old new c r = PerformedOn (sizes_in old.heap.config) old.number old.front new.front c new.ran r
+-- the replies that wait behind those that did
+abbrev pub ran_since : SeatView → SeatView → List Reply
+ran_since old new = drop (length old.ran) new.ran
+
+-- a command was made on a seat, once, behind the finalisers that ran since, and this is its reply. Theirs wait behind those that did
+pub record PerformsOn (old new : SeatView) (c : model.Command) (r : Reply) : Type 0 where
+  pub waits : new.ran ≡ old.ran ++ ran_since old new
+  pub performed : PerformedOn (sizes_in old.heap.config) old.number old.front new.front c (ran_since old new) r
 
 -- the domain's commands have grown by this one, and its replies by those of the finalisers and then by this one
 pub record Records (old new : SeatView) (c : model.Command) (r : Reply) : Type 0 where
   pub commands_are : commands new.front old.number ≡ commands old.front old.number ++ c ∷ []
-  pub replies_are : replies (sizes_in old.heap.config) new.front old.number ≡ replies (sizes_in old.heap.config) old.front old.number ++ (new.ran ++ r ∷ [])
+  pub replies_are : replies (sizes_in old.heap.config) new.front old.number ≡ replies (sizes_in old.heap.config) old.front old.number ++ (ran_since old new ++ r ∷ [])
 
 -- the reply that shows what a register of a seat's domain holds
 abbrev pub shown_in : SeatView → ℕ → Reply
 shown_in s r = shown (register (state_of s.heap.config s.front) s.number r)
 
--- a seat has made no command since: what the domain has seen has grown by entries of others and by runs of its finalisers. The seat tells their replies behind those that it had, and has room for so many finalisers more
+-- a seat has made no command since: what the domain has seen has grown by entries of others and by runs of its finalisers. Their replies wait behind those that did, and there is room for as many finalisers
 pub record GoesAlong (old new : SeatView) : Type 0 where
   pub more : List Reply
   pub ran : new.ran ≡ old.ran ++ more
   pub finalised : Finalised (sizes_in old.heap.config) old.number old.front new.front more
-  pub finals : new.finals ≡ old.finals + length more
+  pub finals : new.finals ≡ old.finals
   pub commands_are : commands new.front old.number ≡ commands old.front old.number
   pub replies_are : replies (sizes_in old.heap.config) new.front old.number ≡ replies (sizes_in old.heap.config) old.front old.number ++ more
 

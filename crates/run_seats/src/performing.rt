@@ -1,7 +1,8 @@
 //! The turns by which a command is made.
 ghost use Rattle.std.specs.Prelude.{◌≡◌};
+ghost use Rattle.heap_rule.specs.Limits.{sizes_in};
 ghost use Rattle.heap_rule.specs.Token.{IsIn};
-ghost use Rattle.run_turns.specs.Runs.{MaySubmit};
+ghost use Rattle.run_turns.specs.Runs.{AddsRan, MaySubmit};
 ghost use Rattle.run_turns.specs.Singly.Driving.{Answered};
 ghost use Rattle.run_seats.specs.Shared.Idling.{IsIdleIn, StaysIdle};
 ghost use Rattle.run_seats.specs.Idling.{KeepsHeap};
@@ -108,6 +109,7 @@ pub(crate) fn perform_on<R: Wait>(
     ensures here { IsIn run.new.token heap.now }
     ensures same { keeper.new ≡ keeper.old }
     ensures answered { Answered heap.now run.old.token.view command result run.new }
+    ensures ran { AddsRan (sizes_in heap.now.config) run.old run.new }
 {
     if let Some(reply) = begin(heap, run, command) {
         return reply;

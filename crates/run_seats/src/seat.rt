@@ -1,5 +1,5 @@
 //! A seat, and a seat that rests.
-ghost use Rattle.std.specs.Prelude.{◌≡◌, ◌↔◌, ◌+◌, ◌-◌, ◌<◌, ◌≤◌, length, None};
+ghost use Rattle.std.specs.Prelude.{◌≡◌, ◌↔◌, ◌+◌, ◌-◌, ◌<◌, ◌≤◌, drop, length, slice_get, None};
 ghost use Rattle.model_core.specs.Counts.Counts.{ephemerons_given, labels_given};
 ghost use Rattle.run_turns.specs.Tries.{registrations_of};
 ghost use Rattle.run_turns.specs.Singly.Refusing.{IsRefused};
@@ -18,7 +18,8 @@ use std::sync::Wait;
 
 /// A domain of a heap, on which its owner makes commands. It may move between threads. Contracts see the heap, the
 /// domain's number, what the domain has seen of the history so far, how many labels were given out, how many more
-/// ephemerons and finalisers fit, what the domain counts, and the replies of the finalisers that have run since the last command was handed in.
+/// ephemerons and finalisers fit, what the domain counts, and the replies of the finalisers that ran and weren't taken
+/// so far.
 #[derive(Drop)]
 pub struct Seat {
     pub(crate) run: DomainRun,
@@ -69,19 +70,38 @@ impl Seat {
         self.run.domain().ephes_room()
     }
 
-    /// How many more finalisers can be registered. One that was registered takes room until it has run.
+    /// How many more finalisers can be registered. One that was registered takes room until it ran and its reply was
+    /// [taken](Seat::take_ran).
     pub fn finals_room(&self) -> usize
         ensures { result ≡ self.now.finals }
     {
-        self.run.domain().finals_room()
+        self.run.finals_left()
     }
 
-    /// The replies of the finalisers that have run since the last command was handed in, in order: those that ran
-    /// before it was made, and those since.
-    pub fn ran(&self) -> &[Reply]
-        ensures { result.now ≡ self.now.ran }
+    /// How many finalisers ran whose replies wait to be taken.
+    pub fn ran_len(&self) -> usize
+        ensures { result ≡ length self.now.ran }
     {
-        self.run.ran()
+        self.run.ran_len()
+    }
+
+    /// The reply at this place of those of finalisers that ran and wait to be taken, from the oldest at 0 on. None
+    /// exactly where fewer wait.
+    pub fn ran(&self, place: usize) -> Option<Reply>
+        ensures { result ≡ slice_get self.now.ran place }
+    {
+        self.run.ran(place)
+    }
+
+    /// Takes the oldest reply of a finaliser that ran and wasn't taken so far, which makes room for a finaliser more.
+    /// None exactly where none waits. What no call of this took waits on, whatever the seat does.
+    pub fn take_ran(&mut self) -> Option<Reply>
+        ensures oldest { result ≡ slice_get self.old.ran 0 }
+        ensures others { self.new ≡ record self.old { ran = drop 1 self.old.ran; finals = self.new.finals } }
+        ensures finals { self.new.finals + length self.new.ran ≡ self.old.finals + length self.old.ran }
+    {
+        let _left = self.run.finals_left();
+        self.run.take_ran()
     }
 
     /// How many labels are left for blocks: 4,294,967,295 less those that were given out.
@@ -96,9 +116,10 @@ impl Seat {
         ensures stats { result ≡ self.now.stats }
         ensures labels { result.labels ≡ self.now.labels }
         ensures young { result.young_words ≤ self.now.heap.config.minor_words }
-        ensures finals { result.finals + result.lasts + result.waiting + self.now.finals ≡ self.now.heap.config.finals }
+        ensures finals { result.finals + result.lasts + result.waiting + length self.now.ran + self.now.finals
+            ≡ self.now.heap.config.finals }
     {
-        let _room = self.run.domain().finals_room();
+        let _room = self.run.finals_left();
         counts(&self.run)
     }
 
@@ -121,9 +142,10 @@ impl Seat {
     /// registers, and a label for a block.
     ///
     /// What the domain has seen of the history grows by entries of others and by runs of the domain's finalisers that
-    /// waited, and then by this command, and the reply is that of the state before it. [`ran`](Seat::ran) has the
-    /// replies of these finalisers then. A pause that is wanted is gone through first, and this thread takes domains
-    /// along that rest. A domain that has arrived 2^60 times isn't turned any more, and then this call doesn't return.
+    /// waited, and then by this command, and the reply is that of the state before it. The replies of these finalisers
+    /// wait to be [taken](Seat::take_ran), behind those that did. A pause that is wanted is gone through first, and this
+    /// thread takes domains along that rest. A domain that has arrived 2^60 times isn't turned any more, and then this
+    /// call doesn't return.
     #[inline(always)]
     pub fn perform<R: Wait>(&mut self, rt: &R, seats: &Seats, command: Command) -> Reply
         requires here { IsSeatOf seats.now self.old }
@@ -133,7 +155,7 @@ impl Seat {
         ensures records { Records self.old self.new command result }
         ensures labels { self.new.labels ≡ self.old.labels + labels_given command result }
         ensures room { self.old.room ≤ self.new.room + ephemerons_given command result }
-        ensures finals { self.old.finals + length self.new.ran ≤ self.new.finals + registrations_of command }
+        ensures finals { self.old.finals ≤ self.new.finals + registrations_of command }
     {
         let _left = self.labels_left();
         self.run.shows_faithful();

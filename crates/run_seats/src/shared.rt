@@ -1,6 +1,5 @@
 //! Domains that get their commands handed in, each with a share of its heap. Their calls wait for nobody: a program that
 //! has no thread to lend turns them when it likes, and is told where others are missing.
-mod awaiting;
 mod bed;
 mod direct;
 mod idle;

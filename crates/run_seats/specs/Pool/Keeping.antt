@@ -1,5 +1,5 @@
 -- What a clause says of a keeper.
-use Rattle.std.specs.Prelude.{◌≡◌, ℕ, Bool, true, false, Option, Some, List}
+use Rattle.std.specs.Prelude.{◌≡◌, ℕ, Bool, true, false, Option, Some}
 use Rattle.atomic_table.specs.Seated.{TableId}
 use Rattle.run_seats.specs.declared.pool.rule.Knows.{Knows}
 use Rattle.run_seats.specs.declared.pool.rule.Rested.{Rested}

@@ -1,6 +1,6 @@
 -- A run that has no command to make, and a domain that rests.
 use Rattle.std.specs.Prelude.{◌≡◌, ℕ, ◌+◌, ◌-◌, List, [], ◌++◌, length, refl, None, Some}
-use Rattle.std.proofs.Common.{◌∙◌, sym, ap, subst, append-nil, append_assoc, length-append, arith}
+use Rattle.std.proofs.Common.{◌∙◌, sym, ap, subst, append-nil, append_assoc}
 use Rattle.model_core.specs.declared.reply.Reply.{Reply}
 use Rattle.heap_rule.specs.declared.config.Config.{Config}
 use Rattle.heap_rule.specs.Limits.{sizes_in}
@@ -23,11 +23,11 @@ pub record IsIdleIn (h : SharedHeap) (r : RunView) : Type 0 where
   pub more : r.supply ≡ Open
   pub done : r.next ≡ length r.commands
 
--- how many more finalisers can be registered
+-- how many more finalisers can be registered: each takes room until it ran and its reply was taken
 abbrev pub finals_of : RunView → ℕ
-finals_of r = r.token.config.finals - registered r
+finals_of r = r.token.config.finals - (registered r + length r.ran)
 
--- it has made no command since: it has the same commands, place and replies, and takes the next one as it did. Its front has grown by entries of others and by runs of its finalisers, whose replies it keeps behind those that it had, and it has room for no fewer ephemerons, and for a finaliser more for each that ran
+-- it has made no command since: it has the same commands, place and replies, and takes the next one as it did. Its front has grown by entries of others and by runs of its finalisers, whose replies wait behind those that did, and it has room for no fewer ephemerons, and for as many finalisers
 pub record StaysIdle (old new : RunView) : Type 0 where
   pub config : new.token.config ≡ old.token.config
   pub number : new.token.view.own.number ≡ old.token.view.own.number
@@ -38,7 +38,7 @@ pub record StaysIdle (old new : RunView) : Type 0 where
   pub more : List Reply
   pub ran : new.ran ≡ old.ran ++ more
   pub finalised : Finalised (sizes_in old.token.config) old.token.view.own.number old.token.view.seen.front new.token.view.seen.front more
-  pub finals : finals_of new ≡ finals_of old + length more
+  pub finals : finals_of new ≡ finals_of old
   pub takes : Takes 0 0 old.token.view new.token.view
 
 pub still_idle : (r : RunView) → StaysIdle r r
@@ -52,7 +52,7 @@ still_idle r = record {
   more = [];
   ran = sym (append-nil r.ran);
   finalised = finalised_none (sizes_in r.token.config) r.token.view.own.number r.token.view.seen.front;
-  finals = let n : ℕ = finals_of r in omega arith;
+  finals = refl;
   takes = takes_none r.token.view r.token.view refl refl;
 }
 
@@ -68,7 +68,7 @@ stays_on a b c p q = record {
   ran = q.ran ∙ (ap (λ (rs : List Reply). rs ++ q.more) p.ran ∙ append_assoc a.ran p.more q.more);
   finalised = finalised_on (sizes_in a.token.config) a.token.view.own.number a.token.view.seen.front b.token.view.seen.front c.token.view.seen.front p.more q.more p.finalised
       (subst (λ (w : Config × ℕ). Finalised (sizes_in w.0) w.1 b.token.view.seen.front c.token.view.seen.front q.more) (λ i. (p.config i, p.number i)) q.finalised);
-  finals = let first = p.finals in let second = q.finals in let both = length-append p.more q.more in omega (arith, first, second, both);
+  finals = q.finals ∙ p.finals;
   takes = takes_on 0 0 a.token.view b.token.view c.token.view p.takes q.takes;
 }
 

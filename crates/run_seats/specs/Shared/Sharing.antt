@@ -1,5 +1,5 @@
 -- Domains with a share of their heap, as their owners see them.
-use Rattle.std.specs.Prelude.{◌≡◌, ◌≢◌, ℕ, ◌-◌, ◌<◌, List, length, map, Some}
+use Rattle.std.specs.Prelude.{◌≡◌, ◌≢◌, ℕ, ◌+◌, ◌-◌, ◌<◌, List, drop, length, map, Some}
 use Rattle.model_core.specs.declared.command.Command.{Command}
 use Rattle.model_core.specs.declared.reply.Reply.{Reply}
 use Rattle.heap_rule.specs.declared.config.Config.{Config}
@@ -28,9 +28,13 @@ pub record ShareOne (k : Config) (views : List SharedView) : Type 0 where
   pub size : heap.config ≡ k
   pub runs : views ≡ shared_by heap (opened_runs heap)
 
--- it has this command to make, and forgets what the one before left
+-- it has this command to make, and forgets the one before and its reply
 abbrev pub with_command : SharedView → Command → SharedView
 with_command s c = record s { run = submitted s.run c }
+
+-- the oldest of the replies of finalisers that waited was taken
+abbrev pub taken_of : SharedView → SharedView
+taken_of s = record s { run = record s.run { ran = drop 1 s.run.ran } }
 
 -- it gets no more
 abbrev pub closed_of : SharedView → SharedView
@@ -40,9 +44,9 @@ closed_of s = record s { run = record s.run { supply = supply.Closed } }
 abbrev pub shown_by : SharedView → ℕ → Reply
 shown_by s r = shown_in s.heap.config s.run.token r
 
--- how many finalisers more fit
+-- how many more finalisers can be registered: each takes room until it ran and its reply was taken
 abbrev pub finals_left : SharedView → ℕ
-finals_left s = s.heap.config.finals - registered s.run
+finals_left s = s.heap.config.finals - (registered s.run + length s.run.ran)
 
 -- why it takes no command, or not this one: it was closed; the command before isn't done; or this is the first that the command lacks
 abbrev pub IsRefusedBy : SharedView → Command → Refused → Type 0

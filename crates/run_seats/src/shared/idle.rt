@@ -17,7 +17,6 @@ pub fn attend(heap: &Heap, run: &mut DomainRun) -> Came
     ensures here { IsIdleIn heap.now run.new }
     ensures stays { StaysIdle run.old run.new }
 {
-    run.shows_faithful();
     turn_below(heap, run)
 }
 

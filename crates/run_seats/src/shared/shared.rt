@@ -1,20 +1,21 @@
 //! A domain with a share of its heap.
-ghost use Rattle.std.specs.Prelude.{◌≡◌, ◌≢◌, ◌↔◌, ◌≤◌, true, None, IfOk, IfErr, IfSome};
+ghost use Rattle.std.specs.Prelude.{◌≡◌, ◌≢◌, ◌↔◌, ◌≤◌, true, length, slice_get, None, IfOk, IfErr, IfSome};
 ghost use Rattle.heap_rule.specs.Limits.{sizes_in};
 ghost use Rattle.heap_rule.specs.Token.{IsIn};
 ghost use Rattle.run_turns.specs.declared.supply.Supply.TheVariants.{Open};
-ghost use Rattle.run_turns.specs.Runs.{GoesOn, HasLooked, IsLastReply, IsUnanswered, MaySubmit, Stretches, answer_of};
+ghost use Rattle.run_turns.specs.declared.singly.turning.Came as far;
+ghost use Rattle.run_turns.specs.Runs.{AddsRan, GoesOn, HasLooked, IsLastReply, IsUnanswered, MaySubmit, Stretches, answer_of};
 ghost use Rattle.run_turns.specs.Singly.Counting.{stats_of};
 ghost use Rattle.run_turns.specs.Singly.Driving.{AnswersAwaited, AwaitAnswers};
+ghost use Rattle.run_turns.specs.Singly.Turning.{CameTo};
 ghost use Rattle.run_seats.specs.Shared.Idling.{StaysAlong};
-ghost use Rattle.run_seats.specs.Shared.Sharing.{IsRefusedBy, IsUnclosedBy, MayClose, closed_of, shown_by, with_command};
+ghost use Rattle.run_seats.specs.Shared.Sharing.{IsRefusedBy, IsUnclosedBy, MayClose, closed_of, shown_by, taken_of, with_command};
 
-use crate::shared::awaiting::await_turn;
 use crate::shared::idle::attend;
 use heap_rule::Heap;
 use model_core::command::Command;
 use model_core::reply::Reply;
-use run_turns::singly::{Came, Refusal, Stats, begin, counts, refuses, turn_below};
+use run_turns::singly::{Came, Refusal, Stats, await_turn, begin, counts, refuses, turn_below};
 use run_turns::{DomainRun, Supply, show};
 use std::marker::Model;
 use std::sync::Arc;
@@ -84,7 +85,7 @@ impl SharedRun {
         let _config = self.heap.config();
         let domain = self.run.domain();
         let labels = u32::MAX - domain.labels_made();
-        let why = refuses(command, domain.ephes_room(), domain.finals_room(), labels)?;
+        let why = refuses(command, domain.ephes_room(), self.run.finals_left(), labels)?;
         Some(Refused::Unfit(why))
     }
 
@@ -111,6 +112,7 @@ impl SharedRun {
         ensures heap { self.new.heap ≡ self.old.heap }
         ensures may { IfOk result (λ _. MaySubmit self.old.run command) }
         ensures answers { IfOk result (AwaitAnswers self.old.heap self.old.run.token.view command self.new.run) }
+        ensures ran { IfOk result (λ _. AddsRan (sizes_in self.old.heap.config) self.old.run self.new.run) }
         ensures why { IfErr result (IsRefusedBy self.old command) }
         ensures same { IfErr result (λ _. self.new ≡ self.old) }
     {
@@ -124,6 +126,8 @@ impl SharedRun {
     /// times isn't turned any more.
     pub fn turn(&mut self) -> Came
         ensures heap { self.new.heap ≡ self.old.heap }
+        ensures came { CameTo self.old.heap self.old.run self.new.run result }
+        ensures exact { (other : far.Came) → CameTo self.old.heap self.old.run self.new.run other → other ≡ result }
         ensures stretch { Stretches (sizes_in self.old.heap.config) self.old.run self.new.run }
         ensures goes_on { GoesOn self.old.run self.new.run }
         ensures ended { result ≡ Came.Ended → self.new.run.ended ≡ true }
@@ -135,12 +139,17 @@ impl SharedRun {
     /// A domain that has none makes none.
     pub fn await_turn(&mut self) -> (Came, Option<Reply>)
         ensures heap { self.new.heap ≡ self.old.heap }
+        ensures came { CameTo self.old.heap self.old.run self.new.run result.0 }
+        ensures exact { (other : far.Came) → CameTo self.old.heap self.old.run self.new.run other → other ≡ result.0 }
+        ensures stretch { Stretches (sizes_in self.old.heap.config) self.old.run self.new.run }
         ensures goes_on { GoesOn self.old.run self.new.run }
         ensures answers { AnswersAwaited self.old.heap self.old.run self.new.run result.1 }
         ensures idle { MayClose self.old → StaysAlong self.old self.new }
         ensures ended { result.0 ≡ Came.Ended → (self.new.run.ended ≡ true) × (self.new.run.supply ≢ Open) }
     {
-        await_turn(&self.heap, &mut self.run)
+        let told = await_turn(&self.heap, &mut self.run);
+        self.run.shows_faithful();
+        told
     }
 
     /// The reply to the command that was handed in last. None exactly where that isn't done yet or none was handed in.
@@ -152,11 +161,28 @@ impl SharedRun {
         self.run.answer()
     }
 
-    /// The replies of the finalisers that have run since the last command was handed in, in order.
-    pub fn ran(&self) -> &[Reply]
-        ensures ran { result.now ≡ self.now.run.ran }
+    /// How many finalisers ran whose replies wait to be taken.
+    pub fn ran_len(&self) -> usize
+        ensures { result ≡ length self.now.run.ran }
     {
-        self.run.ran()
+        self.run.ran_len()
+    }
+
+    /// The reply at this place of those of finalisers that ran and wait to be taken, from the oldest at 0 on. None exactly
+    /// where fewer wait.
+    pub fn ran(&self, place: usize) -> Option<Reply>
+        ensures { result ≡ slice_get self.now.run.ran place }
+    {
+        self.run.ran(place)
+    }
+
+    /// Takes the oldest reply of a finaliser that ran and wasn't taken so far, which makes room for a finaliser more. None
+    /// exactly where none waits. It may also be taken once the trace has ended.
+    pub fn take_ran(&mut self) -> Option<Reply>
+        ensures oldest { result ≡ slice_get self.old.run.ran 0 }
+        ensures others { self.new ≡ taken_of self.old }
+    {
+        self.run.take_ran()
     }
 
     /// The reply that shows what a register holds. None exactly where there is no such register. No entry is made.

@@ -1,9 +1,7 @@
-use Rattle.std.proofs.Common.{◌≡◌, ◌∙◌, ap, refl, subst, sym}
+use Rattle.std.proofs.Common.{ap, refl, subst, sym}
 use Rattle.crossbeam_queue.specs.Passes.{view}
 use Rattle.run_seats.specs.Pool.Keeping.{HasTaken, KeepsOf}
-use Rattle.run_seats.specs.Pool.Pooling.{holding, taking, without}
 use Rattle.run_seats.specs.declared.pool.rule.Rested.{Rested}
-use Rattle.run_seats.proofs.OfPool.Moves.{held}
 use Rattle.run_seats.proofs.pool.steps.take_own.Goals as goal
 
 pub take-requires-clause-keeps : goal.take-requires-clause-keeps
