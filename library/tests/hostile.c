@@ -109,7 +109,7 @@ static void refuses_maps(camlheap_domain *domain, uint32_t told) {
 static void refuses(camlheap_domain *domain, uint32_t told) {
   camlheap_reply reply = UNTOUCHED;
   for (int i = 0; i < UNFITS; i++) CHECK(camlheap_submit(domain, &UNFIT[i]) == told && called(domain, UNFIT[i]) == told);
-  for (int i = 0; i < UNFITS; i++) CHECK(own_call(domain, &UNFIT[i], &reply) == told && is_untouched(&reply));
+  for (int i = 0; i < UNFITS; i++) CHECK(own_call(domain, &UNFIT[i], &reply) == told && is_untouched(&reply) && camlheap_wrong(&UNFIT[i]));
   for (uint8_t op = 0; told != CAMLHEAP_UNFIT && op < 24; op++)
     CHECK(own_call(domain, &(camlheap_command){.op = op, .n = 1, .tag = 251}, &reply) == told && is_untouched(&reply));
   camlheap_way way = {.kind = 77};
@@ -224,14 +224,20 @@ static void stalled(void) {
   for (int i = 0; i < 2; i++) camlheap_free(&two[i]);
 }
 
-/* A handle takes one heap after another: what it held is freed, in whatever state that was. */
+/* A handle takes one heap after another once it is empty, in whatever state the one before was; a full one is left as it is. */
 static void started_over(void) {
-  camlheap_domain domain = {0};
+  camlheap_domain domain = {0}, two[2] = {{0}};
   for (int i = 0; i < 3; i++) {
     CHECK(camlheap_start(&SMALL, &domain, 1) == CAMLHEAP_DONE);
     CHECK(done(&domain, (camlheap_command){.op = CAMLHEAP_ALLOC, .dst = 1, .n = 1}).serial == 1);
+    CHECK(camlheap_start(&SMALL, &domain, 1) == CAMLHEAP_HAS_DOMAIN && shown(&domain, 1).serial == 1);
+    camlheap_move(&domain, &domain);
+    camlheap_move(&two[1], &domain);
+    CHECK(camlheap_start(&(camlheap_config){2, 4096, 64, 2, 2}, two, 2) == CAMLHEAP_HAS_DOMAIN && !two[0].full && shown(&two[1], 1).serial == 1);
+    CHECK(camlheap_start(&(camlheap_config){2, 4096, 0, 2, 2}, two, 2) == CAMLHEAP_HAS_DOMAIN && camlheap_start(&SMALL, two, 1) == CAMLHEAP_DONE);
+    camlheap_move(&domain, &two[1]);
     CHECK(camlheap_submit(&domain, &POLL) == CAMLHEAP_DONE);
-    if (i == 1) camlheap_free(&domain);
+    camlheap_free(&domain), camlheap_free(&two[0]);
   }
   camlheap_free(&domain);
   empty(&domain);
@@ -266,6 +272,7 @@ static void random_commands(int count) {
     while (told == CAMLHEAP_AGAIN) told = camlheap_run(&general, 64, &replies[0]);
     while (by_own == CAMLHEAP_AGAIN) by_own = camlheap_run(&own, 64, &replies[1]);
     CHECK(told == CAMLHEAP_DONE ? replies[0].kind <= CAMLHEAP_LAST : told >= CAMLHEAP_UNFIT && told <= CAMLHEAP_NO_FINALISER);
+    CHECK((told == CAMLHEAP_UNFIT) == (camlheap_wrong(&command) != NULL));
     CHECK(told == by_own && memcmp(&replies[0], &replies[1], sizeof replies[0]) == 0);
   }
   CHECK(camlheap_finish(&general) == CAMLHEAP_ENDED && camlheap_finish(&own) == CAMLHEAP_ENDED);

@@ -123,6 +123,7 @@ static void hostile(void) {
   CHECK(camlheap_another_bed(beds, beds + 64) == CAMLHEAP_NO_MORE && !beds[64].full);
   CHECK(camlheap_another_bed(beds + 1, beds + 64) == CAMLHEAP_UNFIT && !beds[64].full);
   CHECK(camlheap_another_bed(beds + 1, beds) == CAMLHEAP_UNFIT && beds[0].full);
+  CHECK(camlheap_another_bed(beds, beds) == CAMLHEAP_UNFIT && beds[0].full && camlheap_another_bed(&none, &none) == CAMLHEAP_NO_BED);
   CHECK(camlheap_rest(&domain, beds) == CAMLHEAP_NO_DOMAIN && camlheap_resume(&domain, beds) == CAMLHEAP_BED_EMPTY);
   CHECK(camlheap_attend(beds) == CAMLHEAP_WAITING);
   CHECK(camlheap_start(&(camlheap_config){1, 4096, 64, 1, 1}, &domain, 1) == CAMLHEAP_DONE);

@@ -2,3 +2,5 @@ pub mod Values
 pub mod Bedded
 mod Waiting
 mod Handing
+mod Standing
+pub mod RefusedBodies

@@ -1,5 +1,5 @@
 -- Why a block is still there, as C is told.
-use Rattle.std.specs.Prelude.{◌≡◌, ◌↔◌, ℕ, ◌<◌, ◌⊎◌, true, false, List, length, slice_get, Some}
+use Rattle.std.specs.Prelude.{◌≡◌, ◌↔◌, ℕ, ◌<◌, ◌≤◌, ◌⊎◌, true, false, List, length, slice_get, Some}
 use Rattle.model_core.specs.declared.label.Label.{Label}
 use Rattle.heap_rule.specs.Limits.{sizes_in}
 use Rattle.model_laws.specs.declared.reach.asking.Reason.{Reason}
@@ -8,7 +8,8 @@ use Rattle.model_laws.specs.declared.reach.exploring.Stop.{Stop}
 use Rattle.model_laws.specs.declared.reach.exploring.Stop.TheVariants.{PutOff, Many, Memory}
 use Rattle.model_laws.specs.Reach.Asking.{IsWhyAlone}
 use Rattle.model_laws.specs.Reach.Walks.{StaysAlone, Walks}
-use Rattle.run_seats.specs.Shared.Sharing.{SharedView}
+use Rattle.run_turns.specs.Singly.Driving.{registered}
+use Rattle.run_seats.specs.Shared.Sharing.{MayClose, SharedView}
 use Rattle.camlheap_c.specs.declared.asking.CamlheapWay.{CamlheapWay}
 use Rattle.camlheap_c.specs.declared.handle.CamlheapDomain.{CamlheapDomain}
 use Rattle.camlheap_c.specs.Exported.{RefusesClose}
@@ -23,10 +24,11 @@ stop_form Memory = 24
 abbrev pub Stops : ℕ → Type 0
 Stops told = (told ≡ 0) ⊎ ((told ≡ 1) ⊎ ((told ≡ 17) ⊎ ((told ≡ 18) ⊎ ((told ≡ 24) ⊎ (told ≡ 26)))))
 
--- the first of these fields stand in C's room, as many as fit
+-- the first of these fields stand in C's room, as many as fit, and what is behind them there is as it was
 pub record Copies (fields old new : List ℕ) : Type 0 where
   pub room : length new ≡ length old
   pub copied : (i n : ℕ) → slice_get fields i ≡ Some n → i < length new → slice_get new i ≡ Some n
+  pub beyond : (i : ℕ) → length fields ≤ i → slice_get new i ≡ slice_get old i
 
 -- what C reads of the answer
 abbrev pub TellsWay : Reason → List ℕ → List ℕ → CamlheapWay → Type 0
@@ -34,10 +36,13 @@ TellsWay (Way way) old new told = (told ≡ record { kind = 0; register = way.re
 TellsWay Nothing old new told = (told ≡ record { kind = 1; register = 0; fields = 0 }) × (new ≡ old)
 TellsWay NoField old new told = (told ≡ record { kind = 2; register = 0; fields = 0 }) × (new ≡ old)
 
--- the domain is the same, in the same heap. The history as it sees it has grown by the loads and copies of the search, and by entries of other domains: no collection has come
+-- the domain is the same, in the same heap, and waits for its next command as it did; what waits to be taken of its finalisers, and how many are registered, is the same. The history as it sees it has grown by the loads and copies of the search, and by entries of other domains: no collection has come
 pub record GoesAlong (old new : SharedView) : Type 0 where
   pub heap : new.heap ≡ old.heap
   pub number : new.run.token.view.own.number ≡ old.run.token.view.own.number
+  pub ready : MayClose old → MayClose new
+  pub ran : new.run.ran ≡ old.run.ran
+  pub unregistered : registered new.run ≡ registered old.run
   pub walks : Walks old.run.token.view.own.number old.run.token.view.seen.front new.run.token.view.seen.front
 
 -- C reads an answer that is so, where the front has grown by the loads of the search alone

@@ -6,7 +6,10 @@ use Rattle.model_core.specs.declared.state.Sizes.{Sizes}
 use Rattle.model_core.specs.Fronts.{IsFrontOf}
 use Rattle.model_core.specs.History.{IsPrefix}
 use Rattle.heap_rule.specs.Limits.{sizes_in}
+use Rattle.run_turns.specs.Singly.Driving.{registered}
 use Rattle.run_seats.specs.Shared.Sharing.{MayClose, SharedView}
+use Rattle.weak_laws.specs.Tables.Performing.{is_spared}
+use Rattle.weak_maps.specs.Beside.{WritesAtMost}
 use Rattle.weak_maps.specs.Guards.{PutGuards, TakeGuards}
 use Rattle.weak_maps.specs.Returns.{FollowsAt, MakeReturns}
 use Rattle.weak_maps.specs.Walks.{OwnQuiet}
@@ -35,15 +38,25 @@ labels_left s = 4294967295 - s.run.token.view.own.serial
 abbrev pub room_left : SharedView → ℕ
 room_left s = s.run.token.view.own.ephemerons.room
 
--- the domain is the same, in the same heap, and has seen more of the history
+-- the domain is the same, in the same heap, and has seen more of the history. It waits for its next command as it did; what waits to be taken of its finalisers, and how many are registered, is the same
 pub record GoesOnIn (old new : SharedView) : Type 0 where
   pub heap : new.heap ≡ old.heap
   pub number : number_of new ≡ number_of old
   pub grows : IsPrefix (front_of old) (front_of new)
+  pub ready : MayClose old → MayClose new
+  pub ran : new.run.ran ≡ old.run.ran
+  pub unregistered : registered new.run ≡ registered old.run
+
+-- no label was given out and no ephemeron made, and at most so many of the domain's entries since write a register from 1 to 7
+pub record MakesNoBlock (old new : SharedView) (writes : ℕ) : Type 0 where
+  pub labels : labels_left new ≡ labels_left old
+  pub room : room_left old ≤ room_left new
+  pub written : WritesAtMost (number_of old) (front_of old) (front_of new) writes
 
 -- the domain has changed no block, and a map with each leaf on its key's way is one still, if others respect it
-pub record LooksOn (old new : SharedView) (map : ℕ) : Type 0 where
+pub record LooksOn (old new : SharedView) (map writes : ℕ) : Type 0 where
   pub goes_on : GoesOnIn old new
+  pub none : MakesNoBlock old new writes
   pub quiet : OwnQuiet (sizes_of old) (number_of old) (front_of old) (front_of new)
   pub follows : FollowsAt (sizes_of old) (number_of old) (front_of old) (front_of new) map
 
@@ -63,7 +76,7 @@ RefusesMap s Low told = RefusesClose s told ⊎ ((told ≡ 23) × (Low → ⊥))
 
 -- a look at a key, by what the call answers: 0 where it is answered, 1 where a command was put off, and then each register but 8 to 11 holds what it held
 pub record LooksUp (old new : SharedView) (dst map key : ℕ) (before read : CamlheapReply) (told : ℕ) : Type 0 where
-  pub on : LooksOn old new map
+  pub on : LooksOn old new map (is_spared dst)
   pub made : told ≡ 0 → Reads read (GetsAt (sizes_of old) (number_of old) (front_of old) (front_of new) dst map key)
   pub again : told ≢ 0 → KeepsBeside (sizes_of old) (number_of old) (front_of old) (front_of new)
   pub unread : told ≢ 0 → read ≡ before
@@ -71,6 +84,7 @@ pub record LooksUp (old new : SharedView) (dst map key : ℕ) (before read : Cam
 -- a binding is taken out, by what the call answers: 0 where it is answered, 1 where it has stopped, and then no binding was changed. Its entries respect the map as long as the others' do, and each register but 8 to 11 holds what it held
 pub record TakesOut (old new : SharedView) (map key : ℕ) (before read : CamlheapReply) (told : ℕ) : Type 0 where
   pub goes_on : GoesOnIn old new
+  pub none : MakesNoBlock old new 0
   pub keeps : KeepsBeside (sizes_of old) (number_of old) (front_of old) (front_of new)
   pub guards : TakeGuards (sizes_of old) (number_of old) (front_of old) (front_of new) map
   pub follows : FollowsAt (sizes_of old) (number_of old) (front_of old) (front_of new) map
@@ -81,6 +95,7 @@ pub record TakesOut (old new : SharedView) (map key : ℕ) (before read : Camlhe
 -- a binding is put, by what the call answers: 0 where it is answered, with its refusals and labels counted, 1 where it has stopped, and then no binding was changed. Its entries respect the map as long as the others' do, each register but 8 to 11 holds what it held, and it has taken at most two labels and room for one ephemeron
 pub record PutsIn (old new : SharedView) (map key item : ℕ) (before read : CamlheapReply) (told : ℕ) : Type 0 where
   pub goes_on : GoesOnIn old new
+  pub written : WritesAtMost (number_of old) (front_of old) (front_of new) 0
   pub keeps : KeepsBeside (sizes_of old) (number_of old) (front_of old) (front_of new)
   pub guards : PutGuards (sizes_of old) (number_of old) (front_of old) (front_of new) map
   pub follows : FollowsAt (sizes_of old) (number_of old) (front_of old) (front_of new) map

@@ -1,10 +1,12 @@
 //! Commands and turns, as C calls them.
 ghost use Rattle.std.specs.Prelude.{◌≡◌, ◌≢◌, ◌↔◌, ◌<◌, ◌≤◌, true, false};
-ghost use Rattle.run_turns.specs.Runs.{GoesOn};
+ghost use Rattle.run_turns.specs.declared.singly.turning.Came as far;
+ghost use Rattle.run_turns.specs.Runs.{GoesOn, IsHandedIn};
+ghost use Rattle.run_turns.specs.Singly.Turning.{CameTo};
 ghost use Rattle.run_seats.specs.Shared.Idling.{StaysAlong};
 ghost use Rattle.run_seats.specs.Shared.Sharing.{MayClose};
-ghost use Rattle.camlheap_c.specs.Exported.{Calls, CallsAsked, HasEnded, RefusesAs, Submits, TakesTurn, TakesTurns};
-ghost use Rattle.camlheap_c.specs.Forms.{command_as};
+ghost use Rattle.camlheap_c.specs.Exported.{Adds, Calls, CallsAsked, HasEnded, RefusesAs, Submits, TakesSome, TakesTurn, TakesTurns, TellsCame, TellsLast};
+ghost use Rattle.camlheap_c.specs.Forms.{came_form, command_as};
 
 use crate::codes::{AGAIN, DONE, NO_DOMAIN, UNFIT, refusal_code, turn_code};
 use crate::crossing::{CamlheapCommand, CamlheapReply, command_of, reply_of};
@@ -54,9 +56,9 @@ pub extern "C" fn camlheap_submit(
 pub extern "C" fn camlheap_turn(_alloc: Global, handle: &mut CamlheapDomain) -> u32
     ensures kept { handle.new.full ≡ handle.old.full }
     ensures none { (handle.old.full ≡ false) ↔ (result ≡ 16) }
-    ensures heap { handle.old.full ≡ true → handle.new.value.heap ≡ handle.old.value.heap }
-    ensures stretch { handle.old.full ≡ true → TakesTurn handle.old.value handle.new.value }
-    ensures goes_on { handle.old.full ≡ true → GoesOn handle.old.value.run handle.new.value.run }
+    ensures turn { handle.old.full ≡ true → TakesTurn handle.old.value handle.new.value }
+    ensures came { handle.old.full ≡ true → TellsCame handle.old.value.heap handle.old.value.run handle.new.value.run result }
+    ensures exact { handle.old.full ≡ true → (c : far.Came) → CameTo handle.old.value.heap handle.old.value.run handle.new.value.run c → result ≡ came_form c }
     ensures ended { handle.old.full ≡ true → result ≡ 4 → handle.new.value.run.ended ≡ true }
 {
     if !handle.is_full() {
@@ -74,6 +76,8 @@ fn turns_of(run: &mut SharedRun, turns: u32, reply: &mut CamlheapReply) -> u32
     ensures idle { MayClose run.old → StaysAlong run.old run.new }
     ensures ended { result ≡ 4 → HasEnded run.new.run }
     ensures told { result < 5 }
+    ensures last { result ≢ 0 → result ≢ 1 → TellsLast run.old run.new result }
+    ensures ran { IsHandedIn run.old.run.supply → Adds run.old run.new }
 {
     'turns: for _ in 0..turns {
         let (came, answer) = run.await_turn();
@@ -100,12 +104,7 @@ pub extern "C" fn camlheap_run(
 ) -> u32
     ensures kept { handle.new.full ≡ handle.old.full }
     ensures none { (handle.old.full ≡ false) ↔ (result ≡ 16) }
-    ensures goes_on { handle.old.full ≡ true → TakesTurns handle.old.value handle.new.value reply.old reply.new result }
-    ensures heap { handle.old.full ≡ true → handle.new.value.heap ≡ handle.old.value.heap }
-    ensures further { handle.old.full ≡ true → GoesOn handle.old.value.run handle.new.value.run }
-    ensures idle { handle.old.full ≡ true → MayClose handle.old.value → StaysAlong handle.old.value handle.new.value }
-    ensures ended { handle.old.full ≡ true → result ≡ 4 → HasEnded handle.new.value.run }
-    ensures told { handle.old.full ≡ true → result < 5 }
+    ensures some { handle.old.full ≡ true → TakesSome handle.old.value handle.new.value reply.old reply.new result }
     ensures unread { handle.old.full ≡ false → reply.new ≡ reply.old }
 {
     if !handle.is_full() {

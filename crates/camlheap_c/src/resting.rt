@@ -1,8 +1,8 @@
 //! Domains that rest, as C calls them: a thread that has other work puts its domain into a bed, and whoever waits in a
 //! pause turns it there. Beds of one room know of each other, and a domain of any heap may rest in any of them.
 ghost use Rattle.std.specs.Prelude.{◌≡◌, ◌≢◌, ◌↔◌, ◌⊎◌, ◌+◌, ◌<◌, IfErr, IfOk, false, true, None};
-ghost use Rattle.run_seats.specs.Beds.Bedding.{MakesNone, plain_bed};
-ghost use Rattle.camlheap_c.specs.Resting.{AreFull, HoldsSame, KeptOut, MakesBed, NoneMade, Rests, Resumes, first_bed, no_bed_form, unrested_form};
+ghost use Rattle.run_seats.specs.Beds.Bedding.{IsSameBed, MakesNone, plain_bed};
+ghost use Rattle.camlheap_c.specs.Resting.{AreFull, HoldsSame, HoldsSameBed, KeptOut, Leaves, MakesBed, NoneMade, Rests, Resumes, Shuts, first_bed, no_bed_form, unrested_form};
 
 use crate::bed::CamlheapBed;
 use crate::codes::{
@@ -35,13 +35,32 @@ fn no_bed_code(why: NoBed) -> u32
     }
 }
 
-/// A bed in a room of its own. `DONE`, or `MEMORY`, and then nothing has changed. What the handle held before is freed.
+// Has the bed in a handle, if there is one, give back what it keeps of others. Answers whether none is kept then.
+fn gives_back(alloc: Global, bed: &mut CamlheapBed) -> bool
+    ensures same { HoldsSameBed bed.old bed.new }
+    ensures kept { result ≡ false → (bed.new.full ≡ true) × (bed.new.value.keeps ≡ true) }
+    ensures given { result ≡ true → bed.new.full ≡ true → bed.new.value.keeps ≡ false }
+{
+    let Some(mut held) = bed.take(alloc) else {
+        return true;
+    };
+    let given = held.gives_back();
+    *bed = CamlheapBed::of(held);
+    given
+}
+
+/// A bed in a room of its own. `DONE`; `MEMORY`; or `AGAIN`, where the handle holds a bed that couldn't put back a domain of
+/// another. Else than with `DONE` nothing has changed. What the handle held before is freed with `DONE`.
 #[unsafe(no_mangle)]
 pub extern "C" fn camlheap_first_bed(alloc: Global, bed: &mut CamlheapBed) -> u32
     ensures made { result ≡ 0 → (bed.new.full ≡ true) × (bed.new.value ≡ first_bed) }
-    ensures told { result ≢ 0 → result ≡ 24 }
-    ensures same { result ≢ 0 → bed.new ≡ bed.old }
+    ensures told { result ≢ 0 → (result ≡ 1) ⊎ (result ≡ 24) }
+    ensures keeps { result ≡ 1 → (bed.new.full ≡ true) × (bed.new.value.keeps ≡ true) }
+    ensures same { result ≢ 0 → HoldsSameBed bed.old bed.new }
 {
+    if !gives_back(alloc, bed) {
+        return AGAIN;
+    }
     let Ok(made) = RunBed::make(alloc) else {
         return MEMORY;
     };
@@ -73,7 +92,8 @@ fn another_boxed(alloc: Global, first: &mut RunBed) -> Result<Box<RunBed>, NoBed
 }
 
 /// Another bed in the room of the first, which [`camlheap_first_bed`] made. `DONE`; `NO_BED`; `UNFIT` where that isn't the
-/// first; `NO_MORE` where there are 64; or `MEMORY`. What the second handle held before is freed with `DONE`.
+/// first; `NO_MORE` where there are 64; `MEMORY`; or `AGAIN`, where the second handle holds a bed that couldn't put back a domain
+/// of another. Else than with `DONE` nothing has changed. What the second handle held before is freed with `DONE`.
 #[unsafe(no_mangle)]
 pub extern "C" fn camlheap_another_bed(
     alloc: Global,
@@ -84,14 +104,22 @@ pub extern "C" fn camlheap_another_bed(
     ensures none { (first.old.full ≡ false) ↔ (result ≡ 27) }
     ensures made { first.old.full ≡ true → result ≡ 0 → MakesBed first.old first.new bed.new }
     ensures not_first { first.old.full ≡ true → (result ≡ 19) ↔ (first.old.value.makes ≡ false) }
-    ensures same { result ≢ 0 → bed.new ≡ bed.old }
+    ensures same { result ≢ 0 → HoldsSameBed bed.old bed.new }
     ensures same_first { first.old.full ≡ true → result ≢ 0 → first.new.value ≡ first.old.value }
-    ensures why { first.old.full ≡ true → result ≢ 0 → NoneMade first.old.value result }
-    ensures rests { first.old.full ≡ true → first.new.value.rests ≡ first.old.value.rests }
+    ensures why { first.old.full ≡ true → result ≢ 0 → result ≢ 1 → NoneMade first.old.value result }
+    ensures keeps { result ≡ 1 → (bed.new.full ≡ true) × (bed.new.value.keeps ≡ true) }
 {
     let Some(mut held) = first.take(alloc) else {
         return NO_BED;
     };
+    if let Err(why) = held.may_make() {
+        *first = CamlheapBed::of(held);
+        return no_bed_code(why);
+    }
+    if !gives_back(alloc, bed) {
+        *first = CamlheapBed::of(held);
+        return AGAIN;
+    }
     let made = another_boxed(alloc, &mut held);
     *first = CamlheapBed::of(held);
     match made {
@@ -118,7 +146,7 @@ pub extern "C" fn camlheap_rest(
     ensures rests { result ≡ 0 → Rests domain.old domain.new bed.old bed.new }
     ensures why { AreFull domain.old bed.old → result ≢ 0 → KeptOut domain.old.value bed.old.value result }
     ensures same { result ≢ 0 → HoldsSame domain.old domain.new }
-    ensures same_bed { result ≢ 0 → bed.old.full ≡ true → bed.new.value ≡ bed.old.value }
+    ensures same_bed { result ≢ 0 → bed.old.full ≡ true → IsSameBed bed.old.value bed.new.value }
 {
     let Some(mut held) = bed.take(alloc) else {
         return NO_BED;
@@ -152,7 +180,7 @@ pub extern "C" fn camlheap_resume(
     ensures empty { domain.old.full ≡ false → bed.old.full ≡ true → (bed.old.value.rests ≡ None) ↔ (result ≡ 30) }
     ensures resumes { result ≡ 0 → Resumes domain.new bed.old bed.new }
     ensures same { result ≢ 0 → HoldsSame domain.old domain.new }
-    ensures same_bed { result ≢ 0 → bed.old.full ≡ true → bed.new.value ≡ bed.old.value }
+    ensures same_bed { result ≢ 0 → bed.old.full ≡ true → IsSameBed bed.old.value bed.new.value }
     ensures told { result ≢ 0 → result < 27 → result ≡ 1 }
 {
     if let Some(run) = domain.take(alloc) {
@@ -181,7 +209,7 @@ pub extern "C" fn camlheap_resume(
 pub extern "C" fn camlheap_attend(alloc: Global, bed: &mut CamlheapBed) -> u32
     ensures kept { bed.new.full ≡ bed.old.full }
     ensures none { (bed.old.full ≡ false) ↔ (result ≡ 27) }
-    ensures same { bed.old.full ≡ true → bed.new.value ≡ bed.old.value }
+    ensures same { bed.old.full ≡ true → IsSameBed bed.old.value bed.new.value }
     ensures told { bed.old.full ≡ true → (result ≡ 1) ⊎ (result ≡ 2) }
 {
     let Some(mut held) = bed.take(alloc) else {
@@ -192,10 +220,77 @@ pub extern "C" fn camlheap_attend(alloc: Global, bed: &mut CamlheapBed) -> u32
     if went { AGAIN } else { WAITING }
 }
 
-/// Frees a bed, and the room with the last of them. Who rests there can't be taken back then.
-#[unsafe(no_mangle)]
-pub extern "C" fn camlheap_free_bed(alloc: Global, bed: &mut CamlheapBed)
-    ensures gone { bed.new.full ≡ false }
+// Puts the domain of a handle into a bed, where it is left to whoever has another bed of the room.
+fn leave_in(alloc: Global, domain: &mut CamlheapDomain, bed: &mut CamlheapBed) -> u32
+    ensures kept { bed.new.full ≡ bed.old.full }
+    ensures no_bed { (bed.old.full ≡ false) ↔ (result ≡ 27) }
+    ensures no_domain { bed.old.full ≡ true → (domain.old.full ≡ false) ↔ (result ≡ 16) }
+    ensures leaves { result ≡ 0 → Leaves domain.old domain.new bed.old bed.new }
+    ensures taken { AreFull domain.old bed.old → (result ≡ 28) ↔ (bed.old.value.rests ≢ None) }
+    ensures same { result ≢ 0 → result ≢ 1 → HoldsSame domain.old domain.new }
+    ensures shut { result ≡ 1 → Shuts domain.old domain.new }
+    ensures same_bed { result ≢ 0 → bed.old.full ≡ true → IsSameBed bed.old.value bed.new.value }
 {
+    let Some(mut held) = bed.take(alloc) else {
+        return NO_BED;
+    };
+    let Some(run) = domain.take(alloc) else {
+        *bed = CamlheapBed::of(held);
+        return NO_DOMAIN;
+    };
+    let left = held.leave(run);
+    *bed = CamlheapBed::of(held);
+    match left {
+        Ok(()) => DONE,
+        Err((run, why)) => {
+            *domain = CamlheapDomain::of(run);
+            if why == NotRested::Taken {
+                BED_FULL
+            } else {
+                AGAIN
+            }
+        }
+    }
+}
+
+/// A domain whose thread goes away: it is closed, at once or behind the command that it has to make, and put to rest in a bed,
+/// which is freed. Whoever has another bed of its room turns it to its end. Both handles are empty then. `DONE`; `NO_BED`;
+/// `NO_DOMAIN`; `BED_FULL`; or `AGAIN`, where another thread is in the way: then both hold what they held, but for that the domain
+/// is closed. With the others nothing has changed.
+#[unsafe(no_mangle)]
+pub extern "C" fn camlheap_leave(
+    alloc: Global,
+    domain: &mut CamlheapDomain,
+    bed: &mut CamlheapBed,
+) -> u32
+    ensures no_bed { (bed.old.full ≡ false) ↔ (result ≡ 27) }
+    ensures no_domain { bed.old.full ≡ true → (domain.old.full ≡ false) ↔ (result ≡ 16) }
+    ensures taken { AreFull domain.old bed.old → (result ≡ 28) ↔ (bed.old.value.rests ≢ None) }
+    ensures left { result ≡ 0 → (domain.new.full ≡ false) × (bed.new.full ≡ false) }
+    ensures kept { result ≢ 0 → bed.new.full ≡ bed.old.full }
+    ensures same { result ≢ 0 → result ≢ 1 → HoldsSame domain.old domain.new }
+    ensures shut { result ≡ 1 → Shuts domain.old domain.new }
+    ensures same_bed { result ≢ 0 → bed.old.full ≡ true → IsSameBed bed.old.value bed.new.value }
+{
+    let told = leave_in(alloc, domain, bed);
+    if told == DONE {
+        let _held = bed.take(alloc);
+    }
+    told
+}
+
+/// Frees a bed, and the room with the last of them. Who rests there can't be taken back then. `DONE`; or `AGAIN`, where it keeps
+/// a domain of another bed that it couldn't put back, since other threads were in the way: then nothing has changed.
+#[unsafe(no_mangle)]
+pub extern "C" fn camlheap_free_bed(alloc: Global, bed: &mut CamlheapBed) -> u32
+    ensures gone { result ≡ 0 → bed.new.full ≡ false }
+    ensures told { result ≢ 0 → result ≡ 1 }
+    ensures keeps { result ≢ 0 → (bed.new.full ≡ true) × (bed.new.value.keeps ≡ true) }
+    ensures same { result ≢ 0 → HoldsSameBed bed.old bed.new }
+{
+    if !gives_back(alloc, bed) {
+        return AGAIN;
+    }
     let _held = bed.take(alloc);
+    DONE
 }

@@ -1,8 +1,8 @@
 //! The start and the end of a heap, as C calls them.
-ghost use Rattle.std.specs.Prelude.{◌≡◌, ◌≢◌, ◌↔◌, ◌<◌, ◌≤◌, IfOk, false, length, map};
-ghost use Rattle.camlheap_c.specs.Exported.{Fills, Starts, TellsOutside};
+ghost use Rattle.std.specs.Prelude.{◌≡◌, ◌≢◌, ◌↔◌, ◌<◌, ◌≤◌, IfOk, false, true, length, map};
+ghost use Rattle.camlheap_c.specs.Exported.{Fills, HoldsAny, Starts, TellsOutside};
 
-use crate::codes::{DONE, MEMORY, TOO_FEW_HANDLES, outside_code};
+use crate::codes::{DONE, HAS_DOMAIN, MEMORY, TOO_FEW_HANDLES, outside_code};
 use crate::crossing::CamlheapConfig;
 use crate::handle::CamlheapDomain;
 use heap_rule::{Config, StartFault};
@@ -28,7 +28,21 @@ fn boxed(alloc: Global, runs: Vec<SharedRun>) -> Result<Vec<Box<SharedRun>>, All
     Ok(boxes)
 }
 
-// Puts each of these into a handle. What the handle held before is freed.
+// Whether one of the first so many handles holds a domain.
+fn is_any_full(handles: &mut [CamlheapDomain], count: usize) -> bool
+    requires room { count ≤ length handles.old }
+    ensures any { (result ≡ true) ↔ HoldsAny count handles.old }
+    ensures same { handles.new ≡ handles.old }
+{
+    'handles: for at in 0..count {
+        if handles[at].is_full() {
+            return true;
+        }
+    }
+    false
+}
+
+// Puts each of these into a handle.
 fn hand_out(boxes: Vec<Box<SharedRun>>, handles: &mut [CamlheapDomain])
     requires room { length boxes.items ≤ length handles.old }
     ensures { Fills (map (λ b. b.value) boxes.items) handles.old handles.new }
@@ -40,9 +54,9 @@ fn hand_out(boxes: Vec<Box<SharedRun>>, handles: &mut [CamlheapDomain])
     }
 }
 
-/// Starts a heap, and puts each of its domains into a handle. `DONE`, `MEMORY`, `TOO_FEW_HANDLES`, or `OUTSIDE` with the
-/// number of the first field of `config` outside its limit added. Handles are filled only where it answers `DONE`, and
-/// what they held before is freed then.
+/// Starts a heap, and puts each of its domains into a handle. `DONE`; `TOO_FEW_HANDLES`; `HAS_DOMAIN` where one of the handles
+/// that are to be filled holds a domain; `OUTSIDE` with the number of the first field of `config` outside its limit added; or
+/// `MEMORY`. Handles are filled only where it answers `DONE`.
 #[unsafe(no_mangle)]
 pub extern "C" fn camlheap_start(
     alloc: Global,
@@ -50,13 +64,17 @@ pub extern "C" fn camlheap_start(
     handles: &mut [CamlheapDomain],
 ) -> u32
     ensures few { (result ≡ 25) ↔ (length handles.old < config.now.domains) }
-    ensures outside { config.now.domains ≤ length handles.old → TellsOutside config.now result }
+    ensures has_domain { config.now.domains ≤ length handles.old → (result ≡ 29) ↔ HoldsAny config.now.domains handles.old }
+    ensures outside { config.now.domains ≤ length handles.old → result ≢ 29 → TellsOutside config.now result }
     ensures started { result ≡ 0 → Starts config.now handles.old handles.new }
     ensures same { result ≢ 0 → handles.new ≡ handles.old }
-    ensures told { (result ≢ 0) → (result ≢ 24) → (result ≢ 25) → 32 < result }
+    ensures told { (result ≢ 0) → (result ≢ 24) → (result ≢ 25) → (result ≢ 29) → 32 < result }
 {
     if handles.len() < config.domains as usize {
         return TOO_FEW_HANDLES;
+    }
+    if is_any_full(handles, config.domains as usize) {
+        return HAS_DOMAIN;
     }
     let sizes = Config {
         domains: config.domains,

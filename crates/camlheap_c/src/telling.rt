@@ -1,6 +1,6 @@
 //! What a domain tells, as C asks it.
 ghost use Rattle.std.specs.Prelude.{◌≡◌, ◌≢◌, ◌↔◌, true, false};
-ghost use Rattle.run_seats.specs.Shared.Sharing.{MayClose, closed_of};
+ghost use Rattle.run_seats.specs.Shared.Sharing.{MayClose, closed_of, taken_of};
 ghost use Rattle.run_turns.specs.Singly.Counting.{stats_of};
 ghost use Rattle.camlheap_c.specs.Exported.{RefusesClose, ShowsRegister, Tells, TellsRan};
 ghost use Rattle.camlheap_c.specs.Forms.{stats_form};
@@ -83,8 +83,8 @@ pub extern "C" fn camlheap_close(_alloc: Global, handle: &mut CamlheapDomain) ->
     }
 }
 
-/// The reply of one of the finalisers of a domain that have run since the last command was handed in, by its place among
-/// them, counted from 0. `NO_MORE` where no more have run.
+/// The reply of one of the finalisers of a domain that ran and weren't taken yet, by its place among them, counted from 0, the
+/// oldest first. `NO_MORE` where fewer wait. Nothing is taken.
 #[unsafe(no_mangle)]
 pub extern "C" fn camlheap_ran(
     _alloc: Global,
@@ -102,8 +102,34 @@ pub extern "C" fn camlheap_ran(
         return NO_DOMAIN;
     }
     let run = handle.lend();
-    let ran = run.ran().get(place).copied();
-    match ran {
+    match run.ran(place) {
+        Some(ran) => {
+            *reply = reply_of(ran);
+            DONE
+        }
+        None => NO_MORE,
+    }
+}
+
+/// Takes the reply of the oldest of the finalisers of a domain that ran and weren't taken yet. `NO_MORE` where none waits. What
+/// waits only this call takes, and it may be taken behind the end of the domain's trace too.
+#[unsafe(no_mangle)]
+pub extern "C" fn camlheap_take_ran(
+    _alloc: Global,
+    handle: &mut CamlheapDomain,
+    reply: &mut CamlheapReply,
+) -> u32
+    ensures kept { handle.new.full ≡ handle.old.full }
+    ensures none { (handle.old.full ≡ false) ↔ (result ≡ 16) }
+    ensures tells { handle.old.full ≡ true → TellsRan handle.old.value 0 reply.old reply.new result }
+    ensures taken { handle.old.full ≡ true → handle.new.value ≡ taken_of handle.old.value }
+    ensures unread { handle.old.full ≡ false → reply.new ≡ reply.old }
+{
+    if !handle.is_full() {
+        return NO_DOMAIN;
+    }
+    let run = handle.lend();
+    match run.take_ran() {
         Some(ran) => {
             *reply = reply_of(ran);
             DONE

@@ -1,3 +1,4 @@
 pub mod Opened
 pub mod Idling
 pub mod Taken
+pub mod Standing

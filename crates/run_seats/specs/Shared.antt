@@ -1,2 +1,4 @@
 pub mod Sharing
 pub mod Idling
+pub mod Leaving
+pub mod Standing

@@ -5,6 +5,7 @@ mod direct;
 mod idle;
 mod making;
 mod shared;
+mod standing;
 mod walking;
 
 pub use crate::beds::NoBed;
@@ -12,3 +13,4 @@ pub use bed::{NotRested, RunBed};
 pub use idle::{Idle, attend};
 pub use making::make_all;
 pub use shared::{Refused, SharedRun};
+pub use standing::{Kept, Standing};

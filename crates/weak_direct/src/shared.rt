@@ -2,17 +2,17 @@
 ghost use Rattle.std.specs.Prelude.{◌≡◌, ◌-◌};
 
 use crate::direct::Direct;
-use heap_rule::Heap;
 use model_core::command::Command;
 use model_core::reply::Reply;
-use run_seats::shared::SharedRun;
+use run_seats::shared::{SharedRun, Standing};
 
 impl Direct for SharedRun {
-    type Heap = Heap;
+    type Heap = Standing;
 
     ghost use Rattle.heap_rule.specs.Limits.{sizes_in};
+    ghost use Rattle.run_seats.specs.Shared.Standing.{standing_of};
 
-    ghost heap = { λ s. s.heap };
+    ghost heap = { standing_of };
 
     ghost sizes = { λ s. sizes_in s.heap.config };
 

@@ -76,12 +76,17 @@ is_lost is_taken number None guest = false
 is_lost is_taken number (Some x) None = is_taken || not (x.number == number)
 is_lost is_taken number (Some x) (Some y) = false
 
--- a bed: the thing that rests there, as it was put, whether it makes other beds, how many there are so far, and whether it has lost a thing that it took out of the room
+-- a bed: the thing that rests there, as it was put, whether it makes other beds, how many there are so far, whether it keeps a thing of another bed that it couldn't put back, and whether it has lost a thing that it took out of the room
 pub record BedView (T : Type 0) : Type 0 where
   pub rests : Option T
   pub makes : Bool
   pub beds : ℕ
+  pub keeps : Bool
   pub lost : Bool
+
+-- a bed is as it was, but for whether it keeps a thing of another
+abbrev pub IsSameBed : {T : Type 0} → BedView T → BedView T → Type 0
+IsSameBed old new = new ≡ record old { keeps = new.keeps }
 
 -- what rests in a bed of which it is known whether something does
 abbrev pub lies_in : {T : Type 0} → Bool → Option T → Option T
@@ -106,4 +111,4 @@ MakesNone b Memory = (b.makes ≡ true) × (b.beds < 64)
 
 -- a bed in which nothing rests, and that makes no others
 abbrev pub plain_bed : {T : Type 0} → BedView T
-plain_bed = record { rests = None; makes = false; beds = 0; lost = false }
+plain_bed = record { rests = None; makes = false; beds = 0; keeps = false; lost = false }

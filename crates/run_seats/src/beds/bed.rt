@@ -1,6 +1,6 @@
 //! A bed, and what is done with it.
 ghost use Rattle.std.specs.Prelude.{◌≡◌, ◌↔◌, ◌+◌, ◌<◌, true, false, IfOk, IfErr, IfSome, None, Some};
-ghost use Rattle.run_seats.specs.Beds.Bedding.{BedView, MakesNone, plain_bed};
+ghost use Rattle.run_seats.specs.Beds.Bedding.{BedView, IsSameBed, MakesNone, plain_bed};
 
 use crate::beds::restful::Restful;
 use crate::beds::rule::{Knows, Rested};
@@ -13,6 +13,9 @@ use std::sync::Arc;
 // How many beds a room has at most.
 const MOST_BEDS: u32 = 64;
 
+// How many rounds of tries a bed that is to be freed takes to give back what it keeps.
+const ROUNDS: u32 = 1 << 16;
+
 /// Why there is no further bed.
 #[derive(Clone, Copy, Debug, PartialEq, Eq)]
 pub enum NoBed {
@@ -24,8 +27,8 @@ pub enum NoBed {
     Memory,
 }
 
-/// A bed of a room. Contracts see what rests there, as it was put, of the first how many there are so far, and whether it has
-/// lost a thing that it took out of the room, which it never has.
+/// A bed of a room. Contracts see what rests there, as it was put, of the first how many there are so far, whether it keeps a
+/// thing of another bed that it couldn't put back, and whether it has lost one, which it never has.
 #[derive(Drop)]
 pub struct Bed<T: Restful + Drop> {
     room: Arc<Queue<T>>,
@@ -40,12 +43,13 @@ pub struct Bed<T: Restful + Drop> {
 }
 
 impl<T: Restful + Drop> Model for Bed<T> {
+    ghost use Rattle.std.specs.Prelude.{is_some};
     ghost use Rattle.crossbeam_queue.specs.Passes.{IsPassOf, view as known};
     ghost use Rattle.run_seats.specs.Beds.Bedding.{BedView, IsBed, is_lost, lies_in};
 
     ghost Value = { BedView T };
 
-    ghost view = { λ b. record { rests = lies_in b.is_taken (known b.pass).rests; makes = b.makes; beds = b.next; lost = is_lost b.is_taken b.number (known b.pass).turns b.guest } };
+    ghost view = { λ b. record { rests = lies_in b.is_taken (known b.pass).rests; makes = b.makes; beds = b.next; keeps = is_some b.guest; lost = is_lost b.is_taken b.number (known b.pass).turns b.guest } };
 
     ghost invariant = { λ b. IsPassOf b.room.value b.pass × IsBed T.follows (known b.pass) b.number b.stamp b.next b.is_taken b.makes b.guest };
 }
@@ -53,7 +57,7 @@ impl<T: Restful + Drop> Model for Bed<T> {
 impl<T: Restful + Drop> Bed<T> {
     /// The first bed of a new room.
     pub fn make(alloc: Global) -> Result<Bed<T>, AllocError>
-        ensures { IfOk result (λ b. b ≡ record { rests = None; makes = true; beds = 1; lost = false }) }
+        ensures { IfOk result (λ b. b ≡ record { rests = None; makes = true; beds = 1; keeps = false; lost = false }) }
     {
         let (room, pass) = Queue::<T>::ruled(alloc, MOST_BEDS as usize)?;
         Ok(Bed {
@@ -117,7 +121,7 @@ impl<T: Restful + Drop> Bed<T> {
 
     // Puts back what couldn't be put back so far.
     fn give_back(&mut self)
-        ensures { self.new ≡ self.old }
+        ensures { IsSameBed self.old self.new }
     {
         let Some(found) = self.guest.take() else {
             return;
@@ -127,12 +131,27 @@ impl<T: Restful + Drop> Bed<T> {
         }
     }
 
+    /// Puts back what couldn't be put back so far, in many tries. Answers whether it keeps nothing of another bed then: else
+    /// it isn't to be freed, since that thing would be lost.
+    pub fn gives_back(&mut self) -> bool
+        ensures same { IsSameBed self.old self.new }
+        ensures given { (result ≡ true) ↔ (self.new.keeps ≡ false) }
+    {
+        'rounds: for _ in 0..ROUNDS {
+            if self.guest.is_none() {
+                break;
+            }
+            self.give_back();
+        }
+        self.guest.is_none()
+    }
+
     /// Puts a thing to rest, where nothing rests there. It comes back where another thread is in the way.
     pub fn rest(&mut self, item: T) -> Result<(), T>
         requires free { self.old.rests ≡ None }
-        ensures rests { IfOk result (λ _. self.new ≡ record self.old { rests = Some item }) }
+        ensures rests { IfOk result (λ _. self.new ≡ record self.old { rests = Some item; keeps = false }) }
         ensures back { IfErr result (λ back. back ≡ item) }
-        ensures same { IfErr result (λ _. self.new ≡ self.old) }
+        ensures same { IfErr result (λ _. IsSameBed self.old self.new) }
     {
         self.give_back();
         if self.guest.is_some() || self.stamp == u64::MAX {
@@ -158,8 +177,8 @@ impl<T: Restful + Drop> Bed<T> {
     /// at the moment or is in the way.
     pub fn resume(&mut self) -> Option<T>
         ensures rested { IfSome result (λ t. (y : T) × ((self.old.rests ≡ Some y) × T.follows y t)) }
-        ensures free { IfSome result (λ _. self.new ≡ record self.old { rests = None }) }
-        ensures same { result ≡ None → self.new ≡ self.old }
+        ensures free { IfSome result (λ _. self.new ≡ record self.old { rests = None; keeps = false }) }
+        ensures same { result ≡ None → IsSameBed self.old self.new }
     {
         self.give_back();
         if self.guest.is_some() || !self.is_taken {
@@ -179,7 +198,7 @@ impl<T: Restful + Drop> Bed<T> {
 
     /// Takes a thing further that rests in the room, if one can be had at once. Answers whether it went on.
     pub fn attend(&mut self) -> bool
-        ensures { self.new ≡ self.old }
+        ensures { IsSameBed self.old self.new }
     {
         self.give_back();
         if self.guest.is_some() {

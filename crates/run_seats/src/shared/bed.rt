@@ -1,7 +1,8 @@
 //! A bed in which a domain rests.
-ghost use Rattle.std.specs.Prelude.{◌≡◌, ◌↔◌, ◌+◌, ◌<◌, true, false, IfOk, IfErr, IfSome, None, Some};
-ghost use Rattle.run_seats.specs.Beds.Bedding.{MakesNone, plain_bed};
+ghost use Rattle.std.specs.Prelude.{◌≡◌, ◌≢◌, ◌↔◌, ◌+◌, ◌<◌, true, false, IfOk, IfErr, IfSome, None, Some};
+ghost use Rattle.run_seats.specs.Beds.Bedding.{IsSameBed, MakesNone, plain_bed};
 ghost use Rattle.run_seats.specs.Shared.Idling.{IsKeptOut, StaysAlong};
+ghost use Rattle.run_seats.specs.Shared.Leaving.{IsKeptBack, IsLeftAs, RestsOn};
 ghost use Rattle.run_seats.specs.Shared.Sharing.{MayClose, SharedView};
 
 use crate::beds::{Bed, NoBed};
@@ -39,7 +40,7 @@ impl Model for RunBed {
 impl RunBed {
     /// The first bed of a new room.
     pub fn make(alloc: Global) -> Result<RunBed, AllocError>
-        ensures { IfOk result (λ b. b ≡ record { rests = None; makes = true; beds = 1; lost = false }) }
+        ensures { IfOk result (λ b. b ≡ record { rests = None; makes = true; beds = 1; keeps = false; lost = false }) }
     {
         Ok(RunBed {
             bed: Bed::make(alloc)?,
@@ -77,11 +78,11 @@ impl RunBed {
     /// Puts a domain to rest. Its trace is open, and its last command is done; and nothing rests there yet. Else, and
     /// where another thread is in the way, it comes back.
     pub fn rest(&mut self, run: Box<SharedRun>) -> Result<(), (Box<SharedRun>, NotRested)>
-        ensures rests { IfOk result (λ _. self.new ≡ record self.old { rests = Some run.value }) }
+        ensures rests { IfOk result (λ _. self.new ≡ record self.old { rests = Some run.value; keeps = false }) }
         ensures may { IfOk result (λ _. MayClose run.value × (self.old.rests ≡ None)) }
         ensures back { IfErr result (λ e. e.0.value ≡ run.value) }
         ensures why { IfErr result (λ e. IsKeptOut self.old run.value e.1) }
-        ensures same { IfErr result (λ _. self.new ≡ self.old) }
+        ensures same { IfErr result (λ _. IsSameBed self.old self.new) }
     {
         if let Err(why) = run.may_close() {
             return Err((run, NotRested::Refused(why)));
@@ -95,20 +96,50 @@ impl RunBed {
         }
     }
 
-    /// The domain that rests there. It has made no command meanwhile; finalisers of it may have run. None where none rests
-    /// there, and where another thread has it at the moment or is in the way.
+    /// Puts a domain to rest that leaves: its trace is closed, at once or behind the command that it has to make, and whoever
+    /// has a bed of the room turns it to its end. It comes back where something rests there, and then as it was; and where
+    /// another thread is in the way.
+    pub fn leave(&mut self, run: Box<SharedRun>) -> Result<(), (Box<SharedRun>, NotRested)>
+        ensures rests { IfOk result (λ _. (y : SharedView) × (IsLeftAs run.value y × (self.new ≡ record self.old { rests = Some y; keeps = false }))) }
+        ensures free { IfOk result (λ _. self.old.rests ≡ None) }
+        ensures back { IfErr result (λ e. IsKeptBack self.old run.value e.0.value e.1) }
+        ensures same { IfErr result (λ _. IsSameBed self.old self.new) }
+    {
+        if !self.bed.is_free() {
+            return Err((run, NotRested::Taken));
+        }
+        let mut run = run;
+        run.shuts();
+        match self.bed.rest(Idle::of(run)) {
+            Ok(()) => Ok(()),
+            Err(idle) => Err((idle.into_run(), NotRested::Blocked)),
+        }
+    }
+
+    /// The domain that rests there, maybe further on. One whose trace is open and that had no command to make has made none
+    /// meanwhile; finalisers of it may have run. None where none rests there, and where another thread has it at the moment or
+    /// is in the way.
     pub fn resume(&mut self) -> Option<Box<SharedRun>>
-        ensures along { IfSome result (λ run. (y : SharedView) × ((self.old.rests ≡ Some y) × StaysAlong y run.value)) }
-        ensures free { IfSome result (λ _. self.new ≡ record self.old { rests = None }) }
-        ensures same { result ≡ None → self.new ≡ self.old }
+        ensures on { IfSome result (λ run. (y : SharedView) × ((self.old.rests ≡ Some y) × RestsOn y run.value)) }
+        ensures free { IfSome result (λ _. self.new ≡ record self.old { rests = None; keeps = false }) }
+        ensures same { result ≡ None → IsSameBed self.old self.new }
     {
         let idle = self.bed.resume()?;
         Some(idle.into_run())
     }
 
+    /// Puts back what couldn't be put back so far, in many tries. Answers whether it keeps no domain of another bed then: else
+    /// it isn't to be freed, since that domain would be lost.
+    pub fn gives_back(&mut self) -> bool
+        ensures same { IsSameBed self.old self.new }
+        ensures given { (result ≡ true) ↔ (self.new.keeps ≡ false) }
+    {
+        self.bed.gives_back()
+    }
+
     /// One turn of a domain that rests in the room, if one can be had at once. Answers whether it did something.
     pub fn attend(&mut self) -> bool
-        ensures { self.new ≡ self.old }
+        ensures { IsSameBed self.old self.new }
     {
         self.bed.attend()
     }

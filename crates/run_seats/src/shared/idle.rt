@@ -1,8 +1,8 @@
 //! A domain that has no command to make.
 ghost use Rattle.std.specs.Prelude.{◌≡◌};
 ghost use Rattle.heap_rule.specs.Token.{IsIn};
-ghost use Rattle.run_seats.specs.Shared.Idling.{IsIdleIn, StaysAlong, StaysIdle, still_along, stays_along};
-ghost use Rattle.run_seats.specs.Shared.Sharing.{MayClose};
+ghost use Rattle.run_seats.specs.Shared.Idling.{IsIdleIn, StaysIdle};
+ghost use Rattle.run_seats.specs.Shared.Leaving.{RestsOn, rests_on, rests_still};
 
 use crate::beds::Restful;
 use crate::shared::shared::SharedRun;
@@ -20,26 +20,24 @@ pub fn attend(heap: &Heap, run: &mut DomainRun) -> Came
     turn_below(heap, run)
 }
 
-/// A domain that rests: its trace is open, and it has no command to make.
+/// A domain that rests. Where its trace is open and it has no command to make it waits for its next one; else it has left,
+/// and is closed as soon as it can be.
 #[derive(Drop)]
 pub struct Idle {
     run: Box<SharedRun>,
 }
 
 impl Model for Idle {
-    ghost use Rattle.run_seats.specs.Shared.Sharing.{MayClose, SharedView};
+    ghost use Rattle.run_seats.specs.Shared.Sharing.{SharedView};
 
     ghost Value = { SharedView };
 
     ghost view = { λ i. i.run.value };
-
-    ghost invariant = { λ i. MayClose i.run.value };
 }
 
 impl Idle {
-    // A domain that may rest.
+    // A domain that is to rest.
     pub(crate) fn of(run: Box<SharedRun>) -> Idle
-        requires may { MayClose run.value }
         ensures { result ≡ run.value }
     {
         Idle { run }
@@ -55,13 +53,17 @@ impl Idle {
 }
 
 impl Restful for Idle {
-    ghost follows = { StaysAlong };
+    ghost follows = { RestsOn };
 
     fn attend(&mut self) -> bool {
-        self.run.attend() == Came::On
+        let came = match self.run.may_close() {
+            Ok(()) => self.run.attend(),
+            Err(_) => self.run.turn_left(),
+        };
+        came == Came::On
     }
 
-    ghost follows_itself = { still_along };
+    ghost follows_itself = { rests_still };
 
-    ghost follows_on = { stays_along };
+    ghost follows_on = { rests_on };
 }

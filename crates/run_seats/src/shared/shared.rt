@@ -9,6 +9,7 @@ ghost use Rattle.run_turns.specs.Singly.Counting.{stats_of};
 ghost use Rattle.run_turns.specs.Singly.Driving.{AnswersAwaited, AwaitAnswers};
 ghost use Rattle.run_turns.specs.Singly.Turning.{CameTo};
 ghost use Rattle.run_seats.specs.Shared.Idling.{StaysAlong};
+ghost use Rattle.run_seats.specs.Shared.Leaving.{HasLeft, IsLeftAs, LeavesOn};
 ghost use Rattle.run_seats.specs.Shared.Sharing.{IsRefusedBy, IsUnclosedBy, MayClose, closed_of, shown_by, taken_of, with_command};
 
 use crate::shared::idle::attend;
@@ -225,6 +226,25 @@ impl SharedRun {
             return Err(Refused::Busy);
         }
         Ok(())
+    }
+
+    /// No command comes any more, where that can be said: it has no command to make, and its trace isn't closed yet.
+    pub fn shuts(&mut self)
+        ensures { IsLeftAs self.old self.new }
+    {
+        if let Ok(()) = self.may_close() {
+            self.run.close();
+        }
+    }
+
+    // One turn of a domain that has left.
+    pub(crate) fn turn_left(&mut self) -> Came
+        requires left { HasLeft self.old }
+        ensures on { LeavesOn self.old self.new }
+    {
+        let came = self.turn();
+        self.shuts();
+        came
     }
 
     // One turn of a domain that has no command to make.

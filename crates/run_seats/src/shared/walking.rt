@@ -4,18 +4,19 @@ ghost use Rattle.run_turns.specs.Runs.{MaySubmit, NowAnswers};
 ghost use Rattle.run_seats.specs.Shared.Sharing.{IsRefusedBy};
 
 use crate::shared::shared::SharedRun;
-use heap_rule::Heap;
+use crate::shared::standing::Standing;
 use model_core::command::Command;
 use model_core::reply::Reply;
 use model_laws::reach::walker::Walker;
 use run_turns::show;
 
 impl Walker for SharedRun {
-    type Home = Heap;
+    type Home = Standing;
 
     ghost use Rattle.heap_rule.specs.Limits.{sizes_in};
+    ghost use Rattle.run_seats.specs.Shared.Standing.{standing_of};
 
-    ghost home = { λ s. s.heap };
+    ghost home = { standing_of };
 
     ghost sizes = { λ s. sizes_in s.heap.config };
 

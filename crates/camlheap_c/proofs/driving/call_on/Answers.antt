@@ -2,6 +2,9 @@ use Rattle.std.proofs.Common.{◌∙◌, Option, sym, subst, arith}
 use Rattle.model_core.specs.declared.reply.Reply.{Reply}
 use Rattle.heap_rule.specs.Token.{SharedHeap}
 use Rattle.run_turns.specs.Singly.Driving.{AwaitAnswers, Awaits}
+use Rattle.heap_rule.specs.Limits.{sizes_in}
+use Rattle.run_turns.specs.Runs.{AddsRan, IsHandedIn}
+use Rattle.run_turns.proofs.Adding.{adds_on}
 use Rattle.camlheap_c.proofs.driving.call_on.Goals as goal
 
 pub returns-in-Ok-None-clause-called : goal.returns-in-Ok-None-clause-called
@@ -15,7 +18,9 @@ returns-in-Ok-None-clause-called c below =
       command = command;
       stands_for = sym c.command_of.ensures ∙ c.in-Some.is;
       may = e.may;
-      goes_on = record { heap = went.heap ∙ e.heap; made = went.made; waits = went.waits; unread = went.unread };
+      goes_on = record { heap = went.heap ∙ e.heap; made = went.made; waits = went.waits; waits_for = went.waits_for; unread = went.unread };
+      ran = adds_on (sizes_in c.args.run.now.heap.config) c.args.run.now.run c.begin.new.self.run c.turns_of.new.run.run e.ran
+          (subst (λ (h : SharedHeap). AddsRan (sizes_in h.config) c.begin.new.self.run c.turns_of.new.run.run) e.heap (c.turns_of.ensures.ran (subst IsHandedIn (sym waits.more) tt)));
     }
 
 pub returns-in-Ok-None-clause-refused : goal.returns-in-Ok-None-clause-refused

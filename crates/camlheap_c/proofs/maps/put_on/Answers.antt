@@ -1,9 +1,11 @@
 use Rattle.std.proofs.Common.{refl, arith}
+use Rattle.camlheap_c.proofs.Standing.{goes_on_in}
 use Rattle.camlheap_c.proofs.maps.put_on.Goals as goal
 
 pub returns-in-None-clause-does : goal.returns-in-None-clause-does
 returns-in-None-clause-does c = λ few. record {
-  goes_on = record { heap = c.map_put.ensures.spends.stays.heap; number = c.map_put.ensures.spends.stays.domain; grows = c.map_put.ensures.spends.strides.grows };
+  goes_on = goes_on_in c.args.run.now c.map_put.new.m c.map_put.ensures.spends.stays.heap c.map_put.ensures.spends.stays.domain c.map_put.ensures.spends.strides.grows;
+  written = let same = c.map_put.ensures.spends.strides.written in omega (arith, same);
   keeps = c.map_put.ensures.spends.strides.keeps;
   guards = c.map_put.ensures.guards;
   follows = c.map_put.ensures.follows;
@@ -16,7 +18,8 @@ returns-in-None-clause-does c = λ few. record {
 
 pub returns-in-Some-clause-does : goal.returns-in-Some-clause-does
 returns-in-Some-clause-does c = λ few. record {
-  goes_on = record { heap = c.map_put.ensures.spends.stays.heap; number = c.map_put.ensures.spends.stays.domain; grows = c.map_put.ensures.spends.strides.grows };
+  goes_on = goes_on_in c.args.run.now c.map_put.new.m c.map_put.ensures.spends.stays.heap c.map_put.ensures.spends.stays.domain c.map_put.ensures.spends.strides.grows;
+  written = let same = c.map_put.ensures.spends.strides.written in omega (arith, same);
   keeps = c.map_put.ensures.spends.strides.keeps;
   guards = c.map_put.ensures.guards;
   follows = c.map_put.ensures.follows;

@@ -1,9 +1,11 @@
 use Rattle.std.proofs.Common.{refl, arith}
+use Rattle.camlheap_c.proofs.Standing.{goes_on_in}
 use Rattle.camlheap_c.proofs.maps.take_on.Goals as goal
 
 pub returns-in-None-clause-does : goal.returns-in-None-clause-does
 returns-in-None-clause-does c = λ few. record {
-  goes_on = record { heap = c.map_take.ensures.goes.keeps.stays.heap; number = c.map_take.ensures.goes.keeps.stays.domain; grows = c.map_take.ensures.goes.passes.grows };
+  goes_on = goes_on_in c.args.run.now c.map_take.new.m c.map_take.ensures.goes.keeps.stays.heap c.map_take.ensures.goes.keeps.stays.domain c.map_take.ensures.goes.passes.grows;
+  none = record { labels = c.map_take.ensures.goes.keeps.labels; room = c.map_take.ensures.goes.keeps.room; written = let same = c.map_take.ensures.goes.passes.written in omega (arith, same) };
   keeps = c.map_take.ensures.goes.passes.keeps;
   guards = c.map_take.ensures.guards;
   follows = c.map_take.ensures.follows;
@@ -14,7 +16,8 @@ returns-in-None-clause-does c = λ few. record {
 
 pub returns-in-Some-clause-does : goal.returns-in-Some-clause-does
 returns-in-Some-clause-does c = λ few. record {
-  goes_on = record { heap = c.map_take.ensures.goes.keeps.stays.heap; number = c.map_take.ensures.goes.keeps.stays.domain; grows = c.map_take.ensures.goes.passes.grows };
+  goes_on = goes_on_in c.args.run.now c.map_take.new.m c.map_take.ensures.goes.keeps.stays.heap c.map_take.ensures.goes.keeps.stays.domain c.map_take.ensures.goes.passes.grows;
+  none = record { labels = c.map_take.ensures.goes.keeps.labels; room = c.map_take.ensures.goes.keeps.room; written = let same = c.map_take.ensures.goes.passes.written in omega (arith, same) };
   keeps = c.map_take.ensures.goes.passes.keeps;
   guards = c.map_take.ensures.guards;
   follows = c.map_take.ensures.follows;

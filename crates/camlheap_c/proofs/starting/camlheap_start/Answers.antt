@@ -13,7 +13,7 @@ outside_code-requires c =
     subst (λ (n : ℕ). n < 6) (sym c.in-Err-Config.field-is) (outside_few (config_of c.args.config.now) k is).1
 
 pub returns-in-Err-Config-clause-outside : goal.returns-in-Err-Config-clause-outside
-returns-in-Err-Config-clause-outside c room k =
+returns-in-Err-Config-clause-outside c room other k =
     let f = c.in-Err-Config.field in
     let is = (c.make_all.ensures.outside f).0 (c.in-Err-Config.is ∙ ap Err c.in-Err-Config.field-0-is) in
     let told = c.outside_code.ensures ∙ ap (λ (n : ℕ). 32 + n) c.in-Err-Config.field-is in (
@@ -22,7 +22,7 @@ returns-in-Err-Config-clause-outside c room k =
     )
 
 pub returns-in-Err-Config-clause-told : goal.returns-in-Err-Config-clause-told
-returns-in-Err-Config-clause-told c a b d =
+returns-in-Err-Config-clause-told c a b d e =
     let f = c.in-Err-Config.field in
     let is = (c.make_all.ensures.outside f).0 (c.in-Err-Config.is ∙ ap Err c.in-Err-Config.field-0-is) in
     let told : c.outside_code.result ≡ 32 + f = c.outside_code.ensures ∙ ap (λ (n : ℕ). 32 + n) c.in-Err-Config.field-is in
@@ -30,12 +30,12 @@ returns-in-Err-Config-clause-told c a b d =
     omega (arith, told, low)
 
 pub returns-in-Err-Memory-clause-outside : goal.returns-in-Err-Memory-clause-outside
-returns-in-Err-Memory-clause-outside c room k =
+returns-in-Err-Memory-clause-outside c room other k =
     let o = c.make_all.ensures.outside k in
     (λ told. absurd (omega (arith, told)), λ is. let q = o.1 is in let r = c.in-Err-Memory.is in let s = c.in-Err-Memory.field-0-is in cc)
 
 pub returns-in_default-clause-outside : goal.returns-in_default-clause-outside
-returns-in_default-clause-outside c room k =
+returns-in_default-clause-outside c room other k =
     let o = c.make_all.ensures.outside k in
     (λ told. absurd (omega (arith, told)), λ is. let q = o.1 is in let r = c.in-Ok.is in cc)
 
@@ -50,6 +50,6 @@ hand_out-requires c =
     record { room = omega (arith, first, same, count, size, room) }
 
 pub returns-clause-outside : goal.returns-clause-outside
-returns-clause-outside c room k =
+returns-clause-outside c room other k =
     let o = c.make_all.ensures.outside k in
     (λ told. absurd (omega (arith, told)), λ is. let q = o.1 is in let r = c.in-Ok.is in cc)
