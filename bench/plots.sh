@@ -18,7 +18,7 @@ rustc -O --edition 2024 -o "$work/twin" "$top/bench/twin/main.rs"
 # Status 3: there is no OCaml 5, and its columns aren't measured.
 "$top/bench/ocaml5.sh" alone "$work/alone" || [ $? -eq 3 ]
 counted=(commands command_by_size calls full_major_by_blocks collections empty_pauses longest_threads chains bindings maps)
-timed=(minor_by_domains threads start beside ocaml5_times)
+timed=(minor_by_domains threads start beside ocaml5_times gc)
 tried=(refused judged stressed)
 case "${1:-counted}" in
     counted) tables=("${counted[@]}") ;;
@@ -374,6 +374,37 @@ ocaml5_times() {
     timed ocaml5_times
     columns what camlheap "OCaml 5" ratio
     "$top/bench/ocaml5.sh" times | awk -F ' [|] ' 'NR > 3 { sub(/^[|] /, "", $1); sub(/ [|]$/, "", $4); print $1 "\t" $2 "\t" $3 "\t" $4 }' || columns "there is no OCaml 5" none none none
+}
+
+# The least of RUNS runs (3 without it) of the program $1 of bench/gc with the words $2, by what stands before the word $3 of the line
+# that it prints of that; `none` where it isn't built or says nothing of it.
+of_gc() {
+    local program=$top/bench/gc/out/$1 words
+    [ -x "$program" ] || { echo none && return; }
+    read -ra words <<<"$2"
+    for _ in $(seq "${RUNS:-3}"); do "$program" "${words[@]}" 2>&1; done | awk -v of="$3" '
+        match($0, of " [0-9.]+") { t = substr($0, RSTART, RLENGTH); sub(/.* /, "", t); if (!n++ || t + 0 < least + 0) least = t }
+        END { print n ? least : "none" }'
+}
+
+gc() {
+    local name words what of each
+    make -s -C "$top/bench/gc" >&2
+    timed gc
+    columns "a benchmark" "what is told, the least of three runs" camlheap "OCaml 5" malloc "Boehm's collector" "to OCaml's"
+    while IFS='|' read -r name words what of; do
+        mapfile -t each < <(for it in heap ocaml malloc boehm; do of_gc "${name}_$it" "$words" "$of"; done)
+        columns "\`$name $words\`" "$what" "${each[@]}" "$(of "${each[0]}" "${each[1]}")"
+    done <<'END'
+trees|16 1|processor time, s|processors
+trees|14 4|wall time, s|wall
+gcbench|18 16 500000 16|processor time, s|processors
+cache|10000 1000000 50000|processor time, s|wall [0-9.]+ s, processors
+cache|100000 1000000 250000|processor time, s|wall [0-9.]+ s, processors
+handles|50000 10|processor time, s|processors
+latency|200000 0 1 270|the longest operation, microseconds|an operation.*most
+latency|200000 16 1 540|the longest operation, microseconds|an operation.*most
+END
 }
 
 # A row of a table of runs: what ran, the last line of the script $2 with its words, and which it was. A script that ends with another

@@ -134,14 +134,17 @@ make() {
     touch -d "@$begun" "$to"
 }
 
-# Proves and builds the program.
+# Proves and builds the program, and keeps how long that took.
 build() {
+    local took=$out/build.minutes
     lock build
     ! is_fresh || return 0
     rm -f "$program.stamp"
+    [ ! -s "$took" ] || takes+=", the last time $(cat "$took") minutes"
     say "proving and building the program: $takes; the log is $out/build.log"
     make "$out/build.log" "$program" "reading the sources"
     : >"$program.stamp" || exit 70
+    echo $(((SECONDS + 59) / 60)) >"$took"
     say "the program is built"
     exec 5>&-
 }
@@ -195,9 +198,17 @@ run() {
     exit "$status"
 }
 
+# Has the file $1 be standard input, or ends as the program does where that can't be read.
+read_from() {
+    { exec <"$1"; } 2>/dev/null && [ ! -d "$1" ] && return
+    echo "read fault" >&2
+    [ ! -t 2 ] || say "the file $1 can't be read"
+    exit "$2"
+}
+
 # Does what the words say at once, by a program that isn't proved.
 try() {
-    say "this program isn't proved; ./$name without the word try proves it first"
+    say "this program isn't proved, and checks each step, some hundred times as slowly; ./$name without the word try proves it first"
     is_tried || build_unproved
     run "$unproved" "$@"
 }

@@ -1,5 +1,5 @@
 (* Tries the wrapper: each call once, and refusals. Ends with 0 where all is as it should be. *)
-open Vikheap
+open Camlheap
 
 let config = { domains = 1; minor_words = 4096; pools = 64; finals = 1; ephes = 1 }
 let refusal f = match f () with _ -> None | exception Refused why -> Some why
@@ -53,4 +53,34 @@ let () =
   done;
   assert (Weak_map.find seat ~map:7 ~key:2 ~dst:3 = Bad_type && Weak_map.replace seat ~map:7 ~key:2 ~item:1 = Bad_type);
   assert (refusal (fun () -> Weak_map.find seat ~map:7 ~key:1 ~dst:8) = Some No_register);
-  assert (refusal (fun () -> Weak_map.make seat ~dst:(-1)) = Some No_register)
+  assert (refusal (fun () -> Weak_map.make seat ~dst:(-1)) = Some No_register);
+  let tells act =
+    let seat = (start { config with ephes = 8; finals = 3 }).(0) in
+    let perform command = ignore (perform seat command) in
+    let called = ref [] in
+    ignore (Weak_map.make seat ~dst:7);
+    List.iter perform
+      [ Alloc { dst = 2; tag = 0; fields = 1 }; Alloc { dst = 1; tag = 0; fields = 1 }; Finalise_last { item = 1; number = 9 } ];
+    assert (finalise_last seat ~item:1 (fun _ -> failwith "a failure that the check asks for") = Done);
+    assert (finalise_last seat ~item:1 (fun ran -> called := ran :: !called) = Done);
+    assert (finalise_last seat ~item:4 (fun _ -> assert false) = Bad_type);
+    List.iter perform [ Forget { dst = 1 }; Full_major ];
+    act seat;
+    List.iter perform [ Poll; Poll; Poll; Poll ];
+    assert (ran seat = [ Last { number = 9 } ] && ran seat = []);
+    assert (match !called with [ Last _ ] -> true | _ -> false)
+  in
+  List.iter tells
+    [ ignore; (fun seat -> for _ = 1 to 10 do ignore (turn seat) done);
+      (fun seat -> assert (Weak_map.replace seat ~map:7 ~key:2 ~item:2 = Done)); (fun seat -> rest seat; resume seat) ];
+  let goes_on_without leaves =
+    let seats = start { config with domains = 2; pools = 128 } in
+    leaves seats;
+    let other = seats.(1) in
+    assert (match perform other Full_major with Live _ -> true | _ -> false);
+    finish other
+  in
+  List.iter goes_on_without
+    [ (fun seats -> leave seats.(0)); (fun seats -> rest seats.(0); leave seats.(0));
+      (fun seats -> try with_seat seats.(0) (fun _ -> raise Exit) with Exit -> ());
+      (fun seats -> seats.(0) <- seats.(1); Gc.full_major (); Gc.full_major ()) ]

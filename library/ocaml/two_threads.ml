@@ -1,5 +1,5 @@
 (* Two systhreads, a seat each: one shares a block, and a finaliser tells the other when it is gone. *)
-open Vikheap
+open Camlheap
 
 let shared = 0
 let block = 1

@@ -1,7 +1,11 @@
 #!/usr/bin/env python3
 """Tries the module: each call, and each refusal that a program can come to. Ends with 0 where all is as it should be."""
+import contextlib
+import io
+
 import camlheap
 from camlheap import Reply
+from camlheap.__main__ import tour
 
 
 def refusal(call, *words):
@@ -45,6 +49,55 @@ def maps():
     domain.finish()
 
 
+def with_finalisers(called):
+    """A domain in which finaliser 9 waits, one whose callable raises, and one that is kept in `called`."""
+    (domain,) = camlheap.start()
+    domain.make_map(5)
+    for words in (("alloc", 2, 0, 1), ("alloc", 1, 0, 1), ("finalise_last", 1, 9)):
+        domain.perform(*words)
+    assert domain.finalise_last(1, lambda _: 1 // 0) == domain.finalise_last(1, called.append) == Reply("ok")
+    assert domain.finalise_last(3, called.append) == Reply("type")
+    domain.perform("drop", 1)
+    domain.perform("full_major")
+    return domain
+
+
+def tells_each_once():
+    """Whatever the domain does between, what ran is told, and called."""
+    for act in (lambda it: None, lambda it: [it.turn() for _ in range(10)], lambda it: it.map(5).put(2, 2), lambda it: (it.rest(), it.resume())):
+        called = []
+        domain = with_finalisers(called)
+        with contextlib.redirect_stderr(io.StringIO()) as said:
+            act(domain)
+            for _ in range(4):
+                domain.perform("poll")
+        assert "ZeroDivisionError" in said.getvalue()
+        assert domain.ran() == [Reply("last", number=9)] and domain.ran() == [] and [it.kind for it in called] == ["last"]
+        domain.finish()
+
+
+def goes_on_without_it():
+    """However a domain was left, the others go on and end."""
+
+    def forgets(domains):
+        del domains[0]
+
+    def raises(domains):
+        with contextlib.suppress(KeyError), domains.pop(0) as it:
+            it.perform("alloc", 1, 0, 1)
+            raise KeyError
+
+    def rests(domains):
+        domains[0].rest()
+        domains.pop(0).leave()
+
+    for leaves in (forgets, raises, rests):
+        domains = camlheap.start(2)
+        leaves(domains)
+        assert domains[0].perform("full_major").kind == "live"
+        domains[0].finish()
+
+
 def main():
     for place, numbers in enumerate([(9,), (1, 5000), (1, 4096, 19), (1, 4096, 64, 200001), (1, 4096, 64, 1, 2**32)]):
         try:
@@ -78,7 +131,7 @@ def main():
     while not domain.turn():
         pass
     domain.free()
-    assert refusal(domain.stats) == refusal(domain.turn) == refusal(domain.show, 0) == refusal(domain.ran) == camlheap.NoDomain
+    assert refusal(domain.stats) == refusal(domain.turn) == refusal(domain.show, 0) == camlheap.NoDomain and domain.ran() == []
     first, second = camlheap.start(2)
     first.rest()
     assert second.perform("full_major").kind == "live" and refusal(first.turn) == camlheap.NoDomain
@@ -89,8 +142,10 @@ def main():
         pass
     first.free(), second.free()
     maps()
+    tells_each_once()
+    goes_on_without_it()
     typed = iter(["", "alloc 99 0 1", "nonsense", "int 1 x", "stats", "help", *[""] * 12])
-    camlheap.tour(lambda offered: next(typed))
+    tour(lambda offered: next(typed))
     print("ok")
 
 

@@ -6,8 +6,11 @@
 //! [finished](Seat::finish).
 use camlheap_sys as sys;
 use std::cell::Cell;
+use std::collections::HashMap;
 use std::fmt;
 use std::marker::PhantomData;
+use std::mem;
+use std::panic::{AssertUnwindSafe, catch_unwind};
 use std::thread;
 
 pub use camlheap_sys::{Config, Stats};
@@ -180,11 +183,22 @@ fn answered(told: u32, reply: &sys::Reply) -> Result<Reply, Refused> {
     if told == sys::DONE { Ok(Reply::of(reply)) } else { Err(Refused::of(told)) }
 }
 
+/// What is called as a finaliser has run, with its reply.
+type Call = Box<dyn FnOnce(Reply) + Send>;
+
+// The finalisers that have something called have the numbers from this one on.
+const CALLED: u32 = 1 << 31;
+
 /// A domain of a heap, with a bed. It moves between threads; one at a time calls on it. One that is dropped before it has
-/// finished leaves the others of its heap waiting in their next pause, for ever.
+/// finished, as where its thread panics, is left to the others: they turn it to its end where they wait for it. Nobody hears of
+/// finalisers of it that run then.
 pub struct Seat {
     raw: sys::Domain,
     bed: sys::Bed,
+    calls: HashMap<u32, Call>,
+    next_call: u32,
+    // The finalisers that have run, with nothing to be called, and weren't asked for yet.
+    told: Vec<Reply>,
     // Two threads don't share one, not even to read.
     _alone: PhantomData<Cell<()>>,
 }
@@ -202,7 +216,7 @@ pub fn start(config: Config) -> Result<Vec<Seat>, Refused> {
         sys::DONE => (),
         told => return Err(Refused::of(told)),
     }
-    let mut seats: Vec<Seat> = raw.into_iter().map(|raw| Seat { raw, bed: sys::Bed::NONE, _alone: PhantomData }).collect();
+    let mut seats: Vec<Seat> = raw.into_iter().map(Seat::of).collect();
     let (first, others) = seats.split_first_mut().expect("a heap has a domain");
     let mut told = unsafe { sys::camlheap_first_bed(&mut first.bed) };
     for seat in others {
@@ -220,11 +234,16 @@ impl Resting {
         while unsafe { sys::camlheap_resume(&mut self.0.raw, &mut self.0.bed) } == sys::AGAIN {
             thread::yield_now();
         }
+        self.0.hear();
         self.0
     }
 }
 
 impl Seat {
+    fn of(raw: sys::Domain) -> Seat {
+        Seat { raw, bed: sys::Bed::NONE, calls: HashMap::new(), next_call: CALLED, told: Vec::new(), _alone: PhantomData }
+    }
+
     /// Makes a command, and answers its reply. Where a pause is wanted it waits for the other seats of the heap.
     pub fn perform(&mut self, command: Command) -> Result<Reply, Refused> {
         const TURNS: u32 = 64;
@@ -236,7 +255,45 @@ impl Seat {
             }
             told = unsafe { sys::camlheap_run(&mut self.raw, TURNS, &mut reply) };
         }
+        self.hear();
         answered(told, &reply)
+    }
+
+    // Takes the finalisers that have run, and has called what is to be called; the others are kept until they are asked for. A call
+    // that panics has said so on standard error, and the next one is made all the same.
+    fn hear(&mut self) {
+        let mut reply = sys::Reply::default();
+        while unsafe { sys::camlheap_take_ran(&mut self.raw, &mut reply) } == sys::DONE {
+            let ran = Reply::of(&reply);
+            match self.calls.remove(&reply.number) {
+                Some(call) => drop(catch_unwind(AssertUnwindSafe(|| call(ran)))),
+                None => self.told.push(ran),
+            }
+        }
+    }
+
+    // Registers a finaliser with what is to be called.
+    fn register(&mut self, call: Call, command: impl Fn(u32) -> Command) -> Result<Reply, Refused> {
+        let number = self.next_call;
+        self.next_call = number.checked_add(1).unwrap_or(CALLED);
+        self.calls.insert(number, call);
+        let made = self.perform(command(number));
+        if made != Ok(Reply::Done) {
+            self.calls.remove(&number);
+        }
+        made
+    }
+
+    /// Has `call` be called, on the thread that calls on this seat, once nothing leads to the block in `item` any more; register `dst`
+    /// holds it again then. Each registration is called once, behind the call on the seat in which its finaliser ran. [`Reply::Done`],
+    /// or [`Reply::BadType`] where `item` holds no block.
+    pub fn finalise(&mut self, item: Register, dst: Register, call: impl FnOnce(Reply) + Send + 'static) -> Result<Reply, Refused> {
+        self.register(Box::new(call), |number| Command::Finalise { item, number, dst })
+    }
+
+    /// The same, once the block in `item` is gone for good.
+    pub fn finalise_last(&mut self, item: Register, call: impl FnOnce(Reply) + Send + 'static) -> Result<Reply, Refused> {
+        self.register(Box::new(call), |number| Command::FinaliseLast { item, number })
     }
 
     /// What a register holds: an integer, a block, or nothing.
@@ -245,13 +302,11 @@ impl Seat {
         answered(unsafe { sys::camlheap_show(&mut self.raw, register, &mut reply) }, &reply)
     }
 
-    /// The finalisers that have run since the last command was handed in, in order.
+    /// The finalisers registered by a number of one's own, by [`Command::Finalise`] and [`Command::FinaliseLast`], that have run and
+    /// weren't told yet, in order. None is lost, in whichever call of the seat it ran.
     pub fn ran(&mut self) -> Vec<Reply> {
-        let (mut found, mut reply) = (Vec::new(), sys::Reply::default());
-        while unsafe { sys::camlheap_ran(&mut self.raw, found.len(), &mut reply) } == sys::DONE {
-            found.push(Reply::of(&reply));
-        }
-        found
+        self.hear();
+        mem::take(&mut self.told)
     }
 
     /// A new weak map into a register below 8: its block, or [`Reply::Full`].
@@ -296,7 +351,7 @@ impl Seat {
             match unsafe { sys::camlheap_turn(&mut self.raw) } {
                 sys::AGAIN => (),
                 sys::WAITING => self.wait(),
-                _ => return,
+                _ => return self.hear(),
             }
         }
     }
@@ -309,7 +364,7 @@ impl Seat {
     }
 
     /// What leads to a block from registers 0 to 13, through fields. It looks into at most `most` blocks, by loads into registers 14
-    /// and 15. It is exact where no other seat makes a command meanwhile. Ask what has [run](Seat::ran) before.
+    /// and 15. It is exact where no other seat makes a command meanwhile.
     pub fn why(&mut self, block: Label, most: u32) -> Result<Why, Refused> {
         let mut fields = vec![0; 64];
         loop {
@@ -333,6 +388,7 @@ impl Seat {
     /// whether the traces of all seats have ended.
     pub fn turn(&mut self) -> bool {
         let told = unsafe { sys::camlheap_turn(&mut self.raw) };
+        self.hear();
         if told == sys::WAITING {
             self.wait();
         }
@@ -361,14 +417,15 @@ impl Seat {
             return Err(Refused::of(told));
         }
         while !self.turn() {}
+        unsafe { sys::camlheap_free(&mut self.raw) };
         Ok(())
     }
 }
 
 /// A weak map, which keeps neither its keys nor, for a key that nothing else leads to, what the key is bound to. It is a block:
 /// seats share one through a field, and use it by these calls alone. Keys and data are in registers below 8; registers 8 to 11
-/// are used between. A call waits for the other seats in a pause, and may collect where it lacks room, so ask what has
-/// [run](Seat::ran) before. [`Refused::NotNow`] where there is no room, or others have won each time.
+/// are used between. A call waits for the other seats in a pause, and may collect where it lacks room.
+/// [`Refused::NotNow`] where there is no room, or others have won each time.
 pub struct WeakMap<'a> {
     seat: &'a mut Seat,
     register: Register,
@@ -400,8 +457,16 @@ impl WeakMap<'_> {
 impl Drop for Seat {
     fn drop(&mut self) {
         unsafe {
+            // One that rests is taken back first; one that was finished holds nothing to leave.
+            while sys::camlheap_resume(&mut self.raw, &mut self.bed) == sys::AGAIN
+                || sys::camlheap_leave(&mut self.raw, &mut self.bed) == sys::AGAIN
+            {
+                thread::yield_now();
+            }
             sys::camlheap_free(&mut self.raw);
-            sys::camlheap_free_bed(&mut self.bed);
+            while sys::camlheap_free_bed(&mut self.bed) == sys::AGAIN {
+                thread::yield_now();
+            }
         }
     }
 }

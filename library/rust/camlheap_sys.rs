@@ -58,6 +58,7 @@ unsafe extern "C" {
     pub fn camlheap_call(domain: *mut Domain, command: *const Command, turns: u32, reply: *mut Reply) -> u32;
     pub fn camlheap_answer(domain: *mut Domain, reply: *mut Reply) -> u32;
     pub fn camlheap_ran(domain: *mut Domain, place: usize, reply: *mut Reply) -> u32;
+    pub fn camlheap_take_ran(domain: *mut Domain, reply: *mut Reply) -> u32;
     pub fn camlheap_show(domain: *mut Domain, register: u8, reply: *mut Reply) -> u32;
     pub fn camlheap_stats(domain: *mut Domain, stats: *mut Stats) -> u32;
     pub fn camlheap_why(
@@ -71,8 +72,9 @@ unsafe extern "C" {
     pub fn camlheap_free(domain: *mut Domain);
     pub fn camlheap_first_bed(bed: *mut Bed) -> u32;
     pub fn camlheap_another_bed(first: *mut Bed, bed: *mut Bed) -> u32;
+    pub fn camlheap_leave(domain: *mut Domain, bed: *mut Bed) -> u32;
     pub fn camlheap_rest(domain: *mut Domain, bed: *mut Bed) -> u32;
     pub fn camlheap_resume(domain: *mut Domain, bed: *mut Bed) -> u32;
     pub fn camlheap_attend(bed: *mut Bed) -> u32;
-    pub fn camlheap_free_bed(bed: *mut Bed);
+    pub fn camlheap_free_bed(bed: *mut Bed) -> u32;
 }

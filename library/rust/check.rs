@@ -1,5 +1,7 @@
 //! Tries the wrapper: each call once, and each refusal that a program can come to. Ends with 0 where all is as it should be.
-use camlheap::{Command, Config, Label, Refused, Reply, Why, start};
+use camlheap::{Command, Config, Label, Refused, Reply, Seat, Why, start};
+use std::sync::{Arc, Mutex};
+use std::thread;
 
 const CONFIG: Config = Config { domains: 1, minor_words: 4096, pools: 64, finals: 1, ephes: 1 };
 
@@ -111,10 +113,89 @@ fn binds_weakly() -> Result<(), Refused> {
     seat.finish()
 }
 
+// A seat in which finaliser 9 waits, and one of register 2 that is called.
+fn with_finalisers(told: &Arc<Mutex<Vec<Reply>>>) -> Result<Seat, Refused> {
+    let mut seat = start(Config { ephes: 8, finals: 3, ..CONFIG })?.remove(0);
+    seat.make_map(7)?;
+    seat.perform(Command::Alloc { dst: 3, tag: 0, fields: 1 })?;
+    seat.perform(Command::Alloc { dst: 1, tag: 0, fields: 1 })?;
+    seat.perform(Command::FinaliseLast { item: 1, number: 9 })?;
+    seat.finalise_last(1, |_| panic!("a panic that the check asks for"))?;
+    let told = Arc::clone(told);
+    assert_eq!(seat.finalise_last(1, move |ran| told.lock().unwrap().push(ran))?, Reply::Done);
+    assert_eq!(seat.finalise_last(4, |_| unreachable!())?, Reply::BadType);
+    seat.perform(Command::Forget { dst: 1 })?;
+    seat.perform(Command::FullMajor)?;
+    Ok(seat)
+}
+
+// Whatever the seat does between, what ran is told, and called.
+fn tells_each_once() -> Result<(), Refused> {
+    let acts: [fn(Seat) -> Seat; 4] = [
+        |seat| seat,
+        |mut seat| {
+            (0..10).for_each(|_| assert!(!seat.turn()));
+            seat
+        },
+        |mut seat| {
+            assert_eq!(seat.map(7).insert(3, 3), Ok(Reply::Done));
+            seat
+        },
+        |seat| seat.rest().resume(),
+    ];
+    for act in acts {
+        let called = Arc::new(Mutex::new(Vec::new()));
+        let mut seat = act(with_finalisers(&called)?);
+        for _ in 0..4 {
+            seat.perform(Command::Poll)?;
+        }
+        assert_eq!(seat.ran(), [Reply::Last { number: 9 }]);
+        assert_eq!(seat.ran(), []);
+        assert!(matches!(called.lock().unwrap()[..], [Reply::Last { .. }]));
+        seat.finish()?;
+    }
+    Ok(())
+}
+
+// What runs at a seat's end is called too.
+fn tells_at_the_end() -> Result<(), Refused> {
+    let called = Arc::new(Mutex::new(Vec::new()));
+    with_finalisers(&called)?.finish()?;
+    assert_eq!(called.lock().unwrap().len(), 1);
+    Ok(())
+}
+
+// The others go on and end, however a seat was left.
+fn goes_on_without_it() -> Result<(), Refused> {
+    let leaves: [fn(Seat); 4] = [drop, |seat| drop(seat.rest()), |mut seat| {
+        thread::spawn(move || seat.perform(Command::Alloc { dst: 1, tag: 0, fields: 1 }).map(|_| drop(seat))).join().unwrap().unwrap()
+    }, |seat| {
+        let panics = thread::spawn(move || {
+            let _seat = seat;
+            panic!("a panic that the check asks for")
+        });
+        assert!(panics.join().is_err());
+    }];
+    for leave in leaves {
+        let mut seats = start(Config { domains: 3, pools: 128, ..CONFIG })?;
+        let (mut seat, other) = (seats.remove(2), seats.remove(1));
+        leave(seats.remove(0));
+        thread::scope(|scope| {
+            scope.spawn(move || other.finish());
+            assert!(matches!(seat.perform(Command::FullMajor), Ok(Reply::Live { .. })));
+            seat.finish()
+        })?;
+    }
+    Ok(())
+}
+
 fn main() -> Result<(), Refused> {
     starts();
     maps()?;
     binds_weakly()?;
+    tells_each_once()?;
+    tells_at_the_end()?;
+    goes_on_without_it()?;
     asks()?;
     rests()?;
     performs()

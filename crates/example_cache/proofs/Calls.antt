@@ -15,7 +15,8 @@ use Rattle.model_core.specs.Domains.{IsWithinLimits}
 use Rattle.model_core.specs.Graph.{label_of}
 use Rattle.model_core.specs.History.{IsPrefix, Legal}
 use Rattle.heap_rule.specs.Limits.{sizes_in}
-use Rattle.run_session.specs.Sessions.{MayPerform, SessionView}
+use Rattle.run_turns.specs.Singly.Refusing.{Takes}
+use Rattle.run_session.specs.Sessions.{SessionView}
 use Rattle.weak_laws.specs.Tables.Structures.{Binding}
 use Rattle.weak_laws.specs.Tables.Stages.{held_in}
 use Rattle.weak_laws.specs.Tables.Performing.{Performed, full_of}
@@ -231,7 +232,7 @@ room_says old new reply.BadType labels left some fits x = (some, fits, x.0)
 room_says old new r labels left some fits x = absurd x
 
 -- a command that spares the cache may be made where its label is left
-pub may_spare : (s : SessionView) (c : Command) → SparesCache c → labels_of c ≤ 4294967295 - s.labels → MayPerform s c
+pub may_spare : (s : SessionView) (c : Command) → SparesCache c → labels_of c ≤ 4294967295 - s.labels → Takes s.room s.finals (4294967295 - s.labels) c
 may_spare s (Alloc dst tag fields) spares few = record { fits = (let below = spares.0 in omega (arith, below), spares.1, spares.2, spares.3); enlists = omega arith; room = omega arith; labels = few }
 may_spare s (Forget dst) spares few = record { fits = omega (arith, spares); enlists = omega arith; room = omega arith; labels = few }
 may_spare s FullMajor spares few = record { fits = tt; enlists = omega arith; room = omega arith; labels = few }

@@ -1,17 +1,22 @@
 -- A step of a heap's only domain, while it runs and gets no more command.
-use Rattle.std.proofs.Common.{true≢false, ◌≡◌, ◌∙◌, ◌⊎◌, ◌+◌, ◌<◌, ◌≤◌, inl, inr, true, false, length, slice_get, Some, arith, sym, ap}
+use Rattle.std.proofs.Common.{true≢false, ⊎_elim, List, ◌≡◌, ◌∙◌, ◌⊎◌, ◌+◌, ◌<◌, ◌≤◌, inl, inr, true, false, length, slice_get, Some, arith, sym, ap}
 use Rattle.model_core.specs.declared.command.Command as model
 use Rattle.heap_rule.specs.declared.view.DomainView.{DomainView}
-use Rattle.heap_rule.specs.Token.{SharedHeap}
+use Rattle.heap_rule.specs.Token.{SharedHeap, IsIn}
+use Rattle.model_core.specs.declared.entry.Entry.{Entry}
 use Rattle.run_turns.proofs.Owing.{ran_count}
 use Rattle.run_turns.proofs.Turning.{inside}
 use Rattle.run_turns.specs.declared.supply.Supply.TheVariants.{Closed, Open, Section}
 use Rattle.run_turns.specs.declared.turned.Turned.{Turned}
 use Rattle.run_turns.specs.declared.turned.Turned.TheVariants.{Did, Waiting as WaitsFor, Hungry, Held, Idle}
 use Rattle.run_turns.specs.declared.turned.Turned.TheVariants.{Ended as Over}
-use Rattle.run_turns.specs.Runs.{RunView, CalmAnswers, CalmDid}
+use Rattle.run_turns.specs.Runs.{RunView, CalmAnswers, CalmDid, IsRun}
 use Rattle.run_turns.specs.Runs.CalmDid.{Finalises, Wishes, Refuses, Tries, Works, Ends, Sees, Makes, Tells, WishesToTell}
 use Rattle.step_finalisers.specs.Registering.{count_of}
+use Rattle.run_turns.proofs.GoingLemmas.{calm_goes}
+use Rattle.run_turns.proofs.StretchLemmas.{calm_stretches}
+use Rattle.run_alone.specs.Idling.{IdleAnswers, Idles}
+use Rattle.run_alone.proofs.Idling.{idles_on}
 use Rattle.run_alone.proofs.Keeping.{works_run}
 
 -- its trace has ended, or it ran a finaliser
@@ -60,3 +65,11 @@ module _ (h : SharedHeap) (r s : RunView) (closed : r.supply ≡ Closed) (past :
   closes (Held section) c = absurd (no_section c.sectioned)
   closes (Idle n) c = absurd (true≢false (sym c.0.over ∙ going))
   closes Over c = absurd (true≢false (sym c.over ∙ going))
+
+-- whatever it had to make none of
+pub idles_calm : (h : SharedHeap) (front : List Entry) (r s : RunView) (a : Turned) → Idles h front r → IsIn s.token h → IsRun s → CalmAnswers h r s a → IdleAnswers h front s s.ended
+idles_calm h front r s a idle here is says = idles_on h front r s idle here (calm_stretches h r s a idle.here says) (calm_goes h r s a says (λ ended. absurd (true≢false (sym ended ∙ idle.running)))) is
+
+-- one that hasn't ended ran a finaliser
+pub closes_fewer : (r s : RunView) → Closes r s → s.ended ≡ false → (s.ended ≡ r.ended) × (count_of s.token.view.own.finalisers < count_of r.token.view.own.finalisers)
+closes_fewer r s c running = ⊎_elim (λ ended. absurd (true≢false (sym ended ∙ running))) (λ ran. ran) c.fewer

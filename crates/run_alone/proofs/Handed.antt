@@ -20,7 +20,7 @@ use Rattle.run_alone.proofs.Paces.{last_running}
 use Rattle.run_alone.proofs.Served.{lone_submitted}
 
 -- where it was put off the domain has arrived as often as before
-arrivals_stay : (h : SharedHeap) (old new : RunView) (c : model.Command) → PutsOff h old new c → new.token.view.own.arrivals ≡ old.token.view.own.arrivals
+pub arrivals_stay : (h : SharedHeap) (old new : RunView) (c : model.Command) → PutsOff h old new c → new.token.view.own.arrivals ≡ old.token.view.own.arrivals
 arrivals_stay h old new c (HasArrived left is) = ap (λ (r : RunView). r.token.view.own.arrivals) is
 arrivals_stay h old new c (OwesFinaliser owes is) = ap (λ (r : RunView). r.token.view.own.arrivals) is
 arrivals_stay h old new c (WorksFirst polls is) = ap (λ (r : RunView). r.token.view.own.arrivals) is
@@ -44,6 +44,9 @@ module _ (h : SharedHeap) (old new : RunView) (c : model.Command) (reply : Reply
 
   pub made_last : last_of h.config new ≡ last_of h.config old
   made_last = last_same h.config old new m.runs (ap (λ (r : RunView). r.left) m.made.0 ∙ m.runs) m.made.1.stays.arrivals
+
+  pub made_arrivals : new.token.view.own.arrivals ≡ old.token.view.own.arrivals
+  made_arrivals = m.made.1.stays.arrivals
 
 -- or put off, and handed in
 module _ (h : SharedHeap) (old between : RunView) (c : model.Command) (was : IsIn old.token h) (here : IsIn between.token h) (may : MaySubmit old c) (p : PutsOff h old between c) where

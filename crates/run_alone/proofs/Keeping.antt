@@ -28,6 +28,7 @@ use Rattle.run_turns.specs.Runs.CalmDid.{Finalises, Wishes, Refuses, Tries, Work
 use Rattle.run_turns.specs.Tries.{NeedsPause}
 use Rattle.step_finalisers.specs.Registering.{count_of}
 use Rattle.run_alone.specs.Lone.{AsksOnce, IsLone, OnlyFinalises, StandsAs, Tells as Telling, TriesOn, Wants}
+use Rattle.run_alone.proofs.Paces.{runs_paced}
 use Rattle.run_alone.proofs.Telling.{tells_calm, tells_on}
 
 inside : {A : Type 0} (xs : List A) (i : ℕ) (x : A) → slice_get xs i ≡ Some x → i < length xs
@@ -262,6 +263,7 @@ module _ (h : SharedHeap) (start r s : RunView) (a : Turned) (l : IsLone h r) (t
     commands = commands_of step;
     tells = told_on told;
     arrivals = arrivals_of step;
+    paced = runs_paced h.config s (left_of step);
     wants = over;
     made = λ served other counts same. never served other counts same step;
   }

@@ -1,5 +1,6 @@
 pub mod Paces
 pub mod Alone
+pub mod Idling
 pub mod Telling
 pub mod Keeping
 pub mod Walking
@@ -7,3 +8,4 @@ pub mod Served
 pub mod Closing
 pub mod Handed
 pub mod Wished
+pub mod Refused

@@ -22,7 +22,7 @@ use Rattle.run_turns.specs.Runs.{GoesBy, IsRun, PassesOn, Resumes, RunView, Sees
 use Rattle.run_turns.specs.Runs.{IsAnswered as RunIsAnswered}
 use Rattle.run_turns.proofs.LeavingLemmas.{passes_leaves}
 use Rattle.run_turns.proofs.PauseLemmas.{even_next, odd_next}
-use Rattle.run_alone.specs.Paces.{is_even, last_arrival, last_of, most_in_pause, steps_left, steps_of}
+use Rattle.run_alone.specs.Paces.{IsPaced, is_even, last_arrival, last_of, most_in_pause, steps_left, steps_of}
 
 pub even_is : (n : ℕ) → IsEven n → is_even n ≡ true
 even_is n e = eq-eqb (n % 2) 0 (let j : ℕ = e.0 in let is : n ≡ j * 2 = e.1 in omega arith)
@@ -216,11 +216,18 @@ nearer h decider r s is first gone p =
     omega (arith, many, high, now, more, less))
     (went h decider r s p)
 
--- a running domain that arrives may have so many arrivals before it in the pause
+-- one that runs
+pub runs_paced : (k : Config) (r : RunView) → r.left ≡ None → IsPaced k r
+runs_paced k r runs = let last = last_running k r runs in omega (arith, last)
+
+-- one that has just arrived from its commands
+pub begun_paced : (k : Config) (r : RunView) → k.pools ≤ 2048 → r.left ≡ Some Run → IsOdd r.token.view.own.arrivals → IsPaced k r
+begun_paced k r pools left odd =
+    let last : last_of k r ≡ r.token.view.own.arrivals + (26 + k.pools * 1024 * 8) * 2 = last_odd (k.pools * 1024) r.token.view.own.arrivals r.left Run r.token.view.seen.share.progress r.token.view.seen.share.unmarked left odd in
+    omega (arith, last, pools)
+
+pub halted_paced : (k : Config) (r : RunView) → k.pools ≤ 2048 → IsEven r.token.view.own.arrivals → IsPaced k (halted r)
+halted_paced k r pools even = begun_paced k (halted r) pools refl (even_next r.token.view.own.arrivals even)
+
 pub halted_last : (k : Config) (r : RunView) → k.pools ≤ 2048 → r.left ≡ None → IsEven r.token.view.own.arrivals → last_of k (halted r) ≤ last_of k r + most_in_pause
-halted_last k r pools runs even =
-    let all : ℕ = k.pools * 1024 in
-    let before = last_running k r runs in
-    let now : last_of k (halted r) ≡ (r.token.view.own.arrivals + 1) + (26 + all * 8) * 2
-    = last_odd all (r.token.view.own.arrivals + 1) (Some Run) Run (halted r).token.view.seen.share.progress (halted r).token.view.seen.share.unmarked refl (even_next r.token.view.own.arrivals even) in
-    omega (arith, before, now, pools)
+halted_last k r pools runs even = let before = last_running k r runs in let few : last_of k (halted r) < (r.token.view.own.arrivals + 1) + most_in_pause = halted_paced k r pools even in omega (arith, before, few)

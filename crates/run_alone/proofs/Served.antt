@@ -1,5 +1,6 @@
 -- The pause for which a heap's only domain has asked.
-use Rattle.std.proofs.Common.{true≢false, ◌≡◌, ◌≢◌, ◌∙◌, ◌⊎◌, ◌+◌, inl, inr, ⊎_elim, ℕ, Bool, true, false, Option, Some, None, length, arith, refl, sym, ap, subst, lt-ltb}
+use Rattle.std.proofs.Common.{true≢false, ◌==◌, ◌≡◌, ◌≢◌, ◌∙◌, ◌⊎◌, ◌+◌, [], inl, inr, ⊎_elim, ℕ, Bool, true, false, Option, Some, None, length, arith, refl, sym, ap, subst, lt-ltb}
+use Rattle.std.proofs.lemmas.Bool.{eqb-false, eqb-true}
 use Rattle.model_core.specs.Domains.{IsWithinLimits, domain_at}
 use Rattle.heap_rule.specs.declared.config.Config.{Config}
 use Rattle.heap_rule.specs.declared.phase.Kind.{Kind}
@@ -10,11 +11,13 @@ use Rattle.heap_rule.specs.Rule.{state_of}
 use Rattle.heap_rule.specs.Token.{SharedHeap, IsIn}
 use Rattle.gc_pause.proofs.OfLaws.Blocks.{owes_few}
 use Rattle.run_turns.specs.declared.supply.Supply.TheVariants.{Open}
-use Rattle.run_turns.specs.Runs.{IsRun, KnowsQueue, RunView, halted, is_asked, served_since}
+use Rattle.run_turns.specs.Runs.{HasLooked, IsRun, KnowsQueue, RunView, halted, is_asked, served_since}
 use Rattle.run_turns.proofs.PauseLemmas.{even_next, not_both}
-use Rattle.run_alone.specs.Lone.{IsBehindAnswer, IsLone, IsPausing, IsServed, ServesOn, Wants}
+use Rattle.run_alone.specs.Lone.{AsksOnce, ComesBack, IsBehindAnswer, IsLone, IsPausing, IsServed, ServesOn, Wants}
+use Rattle.run_alone.proofs.Idling.{going, idles_now}
 use Rattle.run_alone.proofs.Keeping.{asks_none, lone_halted, wants_none}
-use Rattle.run_alone.proofs.Paces.{halted_last}
+use Rattle.run_alone.proofs.Paces.{halted_last, halted_paced}
+use Rattle.run_alone.proofs.Walking.{zeroth}
 use Rattle.run_alone.proofs.Telling.{tells_halted, tells_itself, tells_on}
 
 some_none : (a : Kind) → ◌≡◌ {A = Option Kind} (Some a) None → ⊥
@@ -23,19 +26,13 @@ some_none a is = cc
 run_answer : ◌≡◌ {A = Option Kind} (Some Run) (Some Answer) → ⊥
 run_answer is = cc
 
--- a run that gets more commands hasn't ended
-pub going : (r : RunView) → IsRun r → r.supply ≡ Open → r.ended ≡ false
-going r is more = by r.ended refl where
-  by : (b : Bool) → r.ended ≡ b → r.ended ≡ false
-  by true ended = absurd (is.shut ended more)
-  by false ended = ended
-
 -- as it arrives from its commands
 pub begins : (h : SharedHeap) (complete : Bool) (r : RunView) → IsLone h r → r.left ≡ None → IsIn (halted r).token h → IsRun (halted r) → IsPausing h complete (halted r) (halted r)
 begins h complete r l runs here is = record {
   lone = lone_halted h r l here is;
   commands = refl;
   tells = tells_itself h (halted r);
+  idles = λ front idle. idle;
   within = omega arith;
   more = omega arith;
   stays = λ _. refl;
@@ -84,6 +81,7 @@ module _ (h : SharedHeap) (complete : Bool) (r s : RunView) (limits : IsWithinLi
     commands = i.commands;
     tells = tells_on h r (halted r) s refl refl (tells_halted h r here) i.tells;
     spends = let within = i.within in let more = halted_last h.config r limits.pools runs (l.is.between.even runs) in omega (arith, within, more);
+    paced = let within = i.within in let more = i.more in let few = halted_paced h.config r limits.pools (l.is.between.even runs) in omega (arith, within, more, few);
     runs = back;
     served = λ same. came r.asked refl same;
     full = λ full same at. (told full same).answered (record { next = at; paid = i.owes same ∙ owes_none h r l runs w knows; wished = asked same });
@@ -96,6 +94,7 @@ begins_wishes h r l = record {
   lone = l;
   commands = refl;
   tells = tells_itself h r;
+  idles = λ front idle. idle;
   within = omega arith;
   more = omega arith;
   stays = λ _. refl;
@@ -104,6 +103,47 @@ begins_wishes h r l = record {
   served = λ full. absurd (true≢false (sym full));
 }
 
+-- it comes back from one to where it runs
+pub comes_back : (h : SharedHeap) (r s : RunView) → IsLone h r → (r.asked ≡ None) ⊎ (r.next ≡ length r.commands) → IsPausing h false r s → (s.next ≢ r.next) ⊎ (s.left ≡ None) → ComesBack h r s
+comes_back h r s l calm i ends = record {
+  lone = i.lone;
+  runs = ⊎_elim (λ other. absurd (stays other)) (λ none. none) ends;
+  commands = i.commands;
+  next = same;
+  asked = i.stays same;
+  tells = i.tells;
+  idles = i.idles;
+  spends = i.within;
+}
+  where
+    never : is_asked r.asked ≡ true → r.asked ≡ None → ⊥
+    never wished none = true≢false (sym wished ∙ ap is_asked none)
+
+    stays : s.next ≢ r.next → ⊥
+    stays other = ⊎_elim
+        (λ (none : r.asked ≡ None). never (i.asked other) none)
+        (λ (done : r.next ≡ length r.commands).
+        let idle = i.idles r.token.view.seen.front (idles_now h r l.here (zeroth h r l) l.is l.more done) in
+        other (idle.done ∙ (ap length i.commands ∙ sym done)))
+        calm
+
+    same : s.next ≡ r.next
+    same = by (s.next == r.next) refl where
+      by : (b : Bool) → (s.next == r.next) ≡ b → s.next ≡ r.next
+      by true is = eqb-true s.next r.next is
+      by false other = absurd (stays (eqb-false s.next r.next other))
+
 -- a command that was handed in
 pub lone_submitted : (h : SharedHeap) (r : RunView) → IsIn r.token h → IsRun r → h.config.domains ≡ 1 → r.supply ≡ Open → r.asked ≡ None → IsLone h r
 lone_submitted h r here is alone more none = record { here = here; is = is; alone = alone; more = more; asks = asks_none r none; unqueued = λ runs w. absurd (wants_none r none w) }
+
+-- one that has looked at the want word
+pub lone_looked : (h : SharedHeap) (r s : RunView) → IsLone h r → HasLooked r s → IsIn s.token h → IsRun s → IsLone h s
+lone_looked h r s l k here is = record {
+  here = here;
+  is = is;
+  alone = l.alone;
+  more = ap (λ (v : RunView). v.supply) k.run ∙ l.more;
+  asks = subst AsksOnce (sym k.run) (record { before = l.asks.before; arrived = l.asks.arrived; forgotten = l.asks.forgotten });
+  unqueued = subst (λ (v : RunView). v.left ≡ None → Wants v → v.token.view.own.finalisers.queue.items ≡ []) (sym k.run) l.unqueued;
+}

@@ -1,5 +1,5 @@
 -- What the steps of a heap's only domain come to, by the command that its run has to make.
-use Rattle.std.proofs.Common.{◌≡◌, ◌≢◌, ◌∙◌, inl, inr, List, Option, Some, None, length, arith, refl, sym, ap, subst}
+use Rattle.std.proofs.Common.{◌≡◌, ◌≢◌, ◌∙◌, ◌<◌, inl, inr, List, Option, Some, None, length, arith, refl, sym, ap, subst}
 use Rattle.model_core.specs.declared.command.Command as model
 use Rattle.model_core.specs.declared.entry.Entry.{Entry}
 use Rattle.model_core.specs.declared.reply.Reply.{Reply}
@@ -9,10 +9,10 @@ use Rattle.heap_rule.specs.Ending.{Begins}
 use Rattle.heap_rule.specs.Limits.{sizes_in}
 use Rattle.heap_rule.specs.Token.{SharedHeap, IsIn}
 use Rattle.gc_pause.specs.declared.phases.decider.Decider.{Decider}
-use Rattle.run_turns.specs.declared.supply.Supply.TheVariants.{Open}
+use Rattle.run_turns.specs.declared.supply.Supply.TheVariants.{Listed, Section, Open}
 use Rattle.run_turns.specs.declared.turned.Turned.{Turned}
 use Rattle.run_turns.specs.declared.turned.Turned.TheVariants.{Did}
-use Rattle.run_turns.specs.Runs.{RunView, CalmAnswers, GoesOn, IsRun, PassesOn, Stretches, answer_of, first_reply, halted, run_seeing, submitted}
+use Rattle.run_turns.specs.Runs.{RunView, CalmAnswers, GoesOn, IsRun, PassesOn, Stretches, IsHandedIn, IsUnanswered, answer_of, first_reply, halted, run_seeing, submitted}
 use Rattle.run_turns.specs.Runs.Stretches.{ByOthers}
 use Rattle.run_turns.specs.Sections.{is_spawned_at}
 use Rattle.run_turns.specs.Singly.Driving.{Answered, AwaitAnswers, Awaits}
@@ -50,10 +50,10 @@ pub tells_calm : (h : SharedHeap) (r s : RunView) (a : Turned) → IsIn r.token 
 tells_calm h r s a was here is more says start command w = awaits_turn h start command r s w here (calm_stretches h r s a was says) (calm_goes h r s a says (λ ended. absurd (is.shut ended more)))
 
 -- one that sees more of the history
-seen_stretches : (h : SharedHeap) (r : RunView) (history : List Entry) → Begins history r.token.view → Stretches (sizes_in h.config) r (run_seeing r history)
+pub seen_stretches : (h : SharedHeap) (r : RunView) (history : List Entry) → Begins history r.token.view → Stretches (sizes_in h.config) r (run_seeing r history)
 seen_stretches h r history begins = ByOthers (record { next = refl; replies = refl; ran = refl; ended = refl; front = begins; listed = refl; takes = takes_none _ _ refl refl })
 
-seen_goes : (r : RunView) (history : List Entry) → Begins history r.token.view → GoesOn r (run_seeing r history)
+pub seen_goes : (r : RunView) (history : List Entry) → Begins history r.token.view → GoesOn r (run_seeing r history)
 seen_goes r history begins = record { commands = refl; supply = refl; spawned = refl; number = refl; front = front_prefix _ _ _ begins; over = λ ended. record { ended = ended; next = refl; replies = refl } }
 
 pub tells_seen : (h : SharedHeap) (r : RunView) (history : List Entry) → IsIn r.token h → Begins history r.token.view → Tells h r (run_seeing r history)
@@ -78,7 +78,7 @@ same_past decider h q s (inr (inr (inr a))) = record {
   front = front_prefix _ _ _ a.passed.seen;
 }
 
-goes_past : (decider : Decider) (h : SharedHeap) (q s : RunView) → IsRun q → q.supply ≡ Open → PassesOn h decider q s Did → GoesOn q s
+pub goes_past : (decider : Decider) (h : SharedHeap) (q s : RunView) → IsRun q → q.supply ≡ Open → PassesOn h decider q s Did → GoesOn q s
 goes_past decider h q s is more p = let g = same_past decider h q s p in record { commands = g.commands; supply = g.supply; spawned = g.spawned; number = g.number; front = g.front; over = λ ended. absurd (is.shut ended more) }
 
 pub tells_passed : (decider : Decider) (h : SharedHeap) (q s : RunView) → IsIn q.token h → IsIn s.token h → IsRun q → q.supply ≡ Open → PassesOn h decider q s Did → Tells h q s
@@ -88,9 +88,12 @@ tells_passed decider h q s was here is more p start command w = awaits_turn h st
 pub tells_submitted : (h : SharedHeap) (r : RunView) (c : model.Command) → IsIn r.token h → r.supply ≡ Open → Awaits h r.token.view c (submitted r c)
 tells_submitted h r c here more = handed_in h r r (submitted r c) c here more (record { run = refl; number = refl; front = front_whole r.token.view.own.number r.token.view.seen.front; listed = refl; takes = takes_none r.token.view r.token.view refl refl }) refl
 
--- it was made, and this is its reply
-pub answered : (h : SharedHeap) (start : DomainView) (c : model.Command) (r : RunView) (o : Option Reply) → AwaitAnswers h start c r (answer_of r) → o ≡ answer_of r → (reply : Reply) → o ≡ Some reply → Answered h start c reply r
-answered h start c r o told same reply is = subst (λ (p : Option Reply). AwaitAnswers h start c r p) (sym same ∙ is) told
-
-pub never_none : (h : SharedHeap) (start : DomainView) (c : model.Command) (r : RunView) (o : Option Reply) → AwaitAnswers h start c r (answer_of r) → o ≡ answer_of r → o ≡ None → r.next ≢ 0 → ⊥
-never_none h start c r o told same none made = made (subst (λ (p : Option Reply). AwaitAnswers h start c r p) (sym same ∙ none) told).next
+-- a command that was made has a reply
+pub never_unanswered : (h : SharedHeap) (r s : RunView) → IsRun r → s.supply ≡ Open → IsRun s → r.next < length r.commands → s.commands ≡ r.commands → s.next ≢ r.next → IsUnanswered s → ⊥
+never_unanswered h r s was more is some commands made (inl listed) = let e : Open ≡ Listed = sym more ∙ listed in cc
+never_unanswered h r s was more is some commands made (inr (inl section)) = let e : Open ≡ Section = sym more ∙ section in cc
+never_unanswered h r s was more is some commands made (inr (inr (inl none))) = let long : length r.commands ≡ 0 = ap length (sym commands ∙ none) in omega (arith, some, long)
+never_unanswered h r s was more is some commands made (inr (inr (inr less))) =
+    let one = (is.one (subst IsHandedIn (sym more) tt)).one in
+    let same : length s.commands ≡ length r.commands = ap length commands in
+    made (omega (arith, less, one, same, some))

@@ -1,7 +1,8 @@
 -- What a step in a pause leaves of the run of a heap's only domain.
-use Rattle.std.proofs.Common.{true≢false, ◌≡◌, ◌≢◌, ◌∙◌, ◌⊎◌, ◌&&◌, ◌||◌, ◌==◌, ◌+◌, ◌<◌, inl, inr, ⊎_elim, ℕ, Bool, true, false, if◌then◌else◌, Option, Some, None, slice_get, arith, refl, sym, ap, subst, lt-ltb}
+use Rattle.std.proofs.Common.{true≢false, ◌≡◌, ◌≢◌, ◌∙◌, ◌⊎◌, ◌&&◌, ◌||◌, ◌==◌, ◌+◌, ◌<◌, inl, inr, ⊎_elim, ℕ, Bool, true, false, if◌then◌else◌, Option, Some, None, slice_get, arith, refl, sym, ap, subst, lt-ltb, List}
 use Rattle.std.proofs.lemmas.Bool.{eq-eqb}
 use Rattle.model_core.specs.declared.command.Command as model
+use Rattle.model_core.specs.declared.entry.Entry.{Entry}
 use Rattle.heap_rule.specs.declared.config.Config.{Config}
 use Rattle.heap_rule.specs.declared.phase.Kind.{Kind}
 use Rattle.heap_rule.specs.declared.phase.Kind.TheVariants.{Run, Promote, Reset, Roots, Mark, Rounds, Decide, Queued, Clean, Lasts, Sweep, Answer}
@@ -20,7 +21,12 @@ use Rattle.run_turns.proofs.PauseLemmas.{not_both, odd_next}
 use Rattle.run_alone.specs.Lone.{AsksOnce, IsBehindAnswer, IsLone, IsPausing, IsServed, PassesAlone, Wants, decides}
 use Rattle.run_alone.specs.Paces.{steps_left}
 use Rattle.run_alone.proofs.Keeping.{asks_none, wants_none}
-use Rattle.run_alone.proofs.Telling.{tells_on, tells_passed, tells_seen}
+use Rattle.run_turns.proofs.StretchLemmas.{passed_stretches}
+use Rattle.run_turns.specs.declared.supply.Supply.TheVariants.{Open}
+use Rattle.run_turns.specs.declared.turned.Turned.TheVariants.{Did}
+use Rattle.run_alone.specs.Idling.{Idles}
+use Rattle.run_alone.proofs.Idling.{idles_still}
+use Rattle.run_alone.proofs.Telling.{goes_past, seen_goes, seen_stretches, tells_on, tells_passed, tells_seen}
 use Rattle.run_alone.proofs.Paces.{nearer, no_later, went}
 
 -- a pause with a complete collection ends behind the answer alone
@@ -228,6 +234,12 @@ module _ (h : SharedHeap) (complete : Bool) (start r s : RunView) (i : IsPausing
   kept : Kept
   kept = ⊎_elim goes (⊎_elim told (⊎_elim sees back)) p.passes
 
+  -- nothing was to be made, and nothing is
+  idle_on : (front : List Entry) → s.supply ≡ Open → Idles h front r → Idles h front s
+  idle_on front more idle =
+      let seen : Idles h front q = idles_still h front r q idle i.lone.here (seen_stretches h r p.history p.begins) (seen_goes r p.history p.begins) p.met i.lone.more in
+      idles_still h front q s seen here (passed_stretches who h q s Did i.lone.here p.passes) (goes_past who h q s p.met i.lone.more p.passes) is more
+
   -- the pause goes on
   pub goes_on : IsPausing h complete start s
   goes_on =
@@ -235,6 +247,7 @@ module _ (h : SharedHeap) (complete : Bool) (start r s : RunView) (i : IsPausing
         lone = record { here = here; is = is; alone = i.lone.alone; more = v.supply ∙ i.lone.more; asks = v.once; unqueued = λ none w. absurd (v.wants none w) };
         commands = v.commands ∙ i.commands;
         tells = tells_on h start r s i.commands same i.tells (tells_on h r q s refl refl (tells_seen h r p.history i.lone.here p.begins) (tells_passed who h q s i.lone.here here p.met i.lone.more p.passes));
+        idles = λ front idle. idle_on front (v.supply ∙ i.lone.more) (i.idles front idle);
         within = let less = no_later h who q s p.met first p.passes in let before = i.within in omega (arith, less, before);
         more = let before = i.more in ⊎_elim (λ (b : (s.left ≡ None) × (y.own.arrivals ≡ x.own.arrivals)). let e = b.1 in omega (arith, before, e)) (λ (g : (s.left ≢ None) × (y.own.arrivals ≡ x.own.arrivals + 1)). let e = g.1 in omega (arith, before, e)) (went h who q s p.passes);
         stays = λ next. (v.stays (next ∙ sym same)).0 ∙ i.stays same;

@@ -20,7 +20,7 @@ use Rattle.run_turns.proofs.PauseLemmas.{even_next}
 use Rattle.run_alone.specs.Lone.{IsLone, LooksFirst, Tells as Telling, Wants}
 use Rattle.run_alone.proofs.Keeping.{Came, asks_none, came, lone_calm, wants_none, wants_now}
 use Rattle.run_alone.proofs.Keeping.Came.{Finalised, Asked, IsShort, Made}
-use Rattle.run_alone.proofs.Paces.{last_odd, last_running}
+use Rattle.run_alone.proofs.Paces.{begun_paced, last_odd, last_running, runs_paced}
 
 none_some : (a : Kind) → ◌≡◌ {A = Option Kind} None (Some a) → ⊥
 none_some a is = cc
@@ -44,6 +44,7 @@ module _ (h : SharedHeap) (r s : RunView) (limits : IsWithinLimits (sizes_in h.c
         let more = arrivals in
         let pools = limits.pools in
         omega (arith, before, now, more, pools);
+    paced = begun_paced h.config s limits.pools left odd;
     unasked = λ gone. asked;
     rests = λ same. inr asked;
   }
@@ -74,6 +75,7 @@ module _ (h : SharedHeap) (r s : RunView) (limits : IsWithinLimits (sizes_in h.c
         let now = last_running h.config s (back step) in
         let same = arrivals step in
         omega (arith, before, now, same);
+    paced = runs_paced h.config s (back step);
     unasked = λ gone. absurd (gone (back step));
     rests = λ same. rests same step;
   }

@@ -15,7 +15,8 @@ use Rattle.run_turns.specs.declared.turned.Turned.TheVariants.{Did}
 use Rattle.run_turns.specs.Runs.{RunView, IsRun, PassesOn, WaitsForAnswer, answer_of, is_asked, run_seeing, served_since}
 use Rattle.run_turns.specs.Singly.Driving.{AnswersAwaited}
 use Rattle.step_finalisers.specs.Registering.{count_of}
-use Rattle.run_alone.specs.Paces.{last_of, most_in_pause}
+use Rattle.run_alone.specs.Idling.{StaysIdle}
+use Rattle.run_alone.specs.Paces.{IsPaced, last_of, most_in_pause}
 
 -- who decides in a pause: a complete collection is made for the domain's next command, or what the domain wishes for is done
 abbrev pub decides : Bool → Decider
@@ -66,6 +67,7 @@ pub record IsPausing (h : SharedHeap) (complete : Bool) (start r : RunView) : Ty
   pub lone : IsLone h r
   pub commands : r.commands ≡ start.commands
   pub tells : Tells h start r
+  pub idles : StaysIdle h start r
   pub within : last_of h.config r ≤ last_of h.config start
   pub more : start.token.view.own.arrivals ≤ r.token.view.own.arrivals
   pub stays : r.next ≡ start.next → r.asked ≡ start.asked
@@ -95,6 +97,7 @@ pub record TriesOn (h : SharedHeap) (old new : RunView) : Type 0 where
   pub commands : new.commands ≡ old.commands
   pub tells : Tells h old new
   pub arrivals : new.token.view.own.arrivals ≡ old.token.view.own.arrivals
+  pub paced : IsPaced h.config new
   pub wants : new.next ≡ old.next → Wants new
   pub made : served_since old.asked old.token.view.own.arrivals ≡ true → (slice_get old.commands old.next ≡ Some FullMajor → ⊥) → old.collected ≡ true → new.next ≢ old.next
 
@@ -104,10 +107,22 @@ pub record ServesOn (h : SharedHeap) (complete : Bool) (old new : RunView) : Typ
   pub commands : new.commands ≡ old.commands
   pub tells : Tells h old new
   pub spends : last_of h.config new ≤ last_of h.config old + most_in_pause
+  pub paced : IsPaced h.config new
   pub runs : new.next ≡ old.next → new.left ≡ None
   pub served : new.next ≡ old.next → served_since new.asked new.token.view.own.arrivals ≡ true
   pub full : complete ≡ true → new.next ≡ old.next → slice_get new.commands new.next ≡ Some FullMajor → ⊥
   pub counts : complete ≡ true → new.next ≡ old.next → new.collected ≡ true
+
+-- it runs again, and has the command to make that it had, or still none
+pub record ComesBack (h : SharedHeap) (old new : RunView) : Type 0 where
+  pub lone : IsLone h new
+  pub runs : new.left ≡ None
+  pub commands : new.commands ≡ old.commands
+  pub next : new.next ≡ old.next
+  pub asked : new.asked ≡ old.asked
+  pub tells : Tells h old new
+  pub idles : StaysIdle h old new
+  pub spends : last_of h.config new ≤ last_of h.config old
 
 -- the first turn of a command: the domain found a wish that was left over and arrived, or went on
 pub record LooksFirst (h : SharedHeap) (old new : RunView) : Type 0 where
@@ -115,5 +130,6 @@ pub record LooksFirst (h : SharedHeap) (old new : RunView) : Type 0 where
   pub commands : new.commands ≡ old.commands
   pub tells : Tells h old new
   pub spends : last_of h.config new ≤ last_of h.config old + most_in_pause
+  pub paced : IsPaced h.config new
   pub unasked : new.left ≢ None → new.asked ≡ None
   pub rests : new.next ≡ old.next → Wants new ⊎ (new.asked ≡ None)

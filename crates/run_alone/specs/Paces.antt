@@ -1,5 +1,5 @@
 -- How many steps are left of a pause of a heap's only domain, and how often it has arrived at most where the pause is over.
-use Rattle.std.specs.Prelude.{ℕ, Bool, ◌+◌, ◌-◌, ◌*◌, ◌%◌, ◌==◌, if◌then◌else◌, Option, Some, None}
+use Rattle.std.specs.Prelude.{ℕ, ◌<◌, Bool, ◌+◌, ◌-◌, ◌*◌, ◌%◌, ◌==◌, if◌then◌else◌, Option, Some, None}
 use Rattle.heap_rule.specs.declared.config.Config.{Config}
 use Rattle.heap_rule.specs.declared.phase.Kind.{Kind}
 use Rattle.heap_rule.specs.declared.phase.Progress.{Progress}
@@ -30,3 +30,7 @@ steps_left k r = steps_of (last_of k r) r.left r.token.view.own.arrivals
 -- how often it arrives at most in one pause
 abbrev pub most_in_pause : ℕ
 most_in_pause = 67108864
+
+-- wherever it stands, a pause that goes on ends before it has arrived so often more
+abbrev pub IsPaced : Config → RunView → Type 0
+IsPaced k r = last_of k r < r.token.view.own.arrivals + most_in_pause

@@ -1,6 +1,8 @@
 //! The end of the trace of a heap's only domain.
-ghost use Rattle.std.specs.Prelude.{◌≡◌, ◌≤◌, length, false, true, None};
+ghost use Rattle.std.specs.Prelude.{◌≡◌, ◌≤◌, List, length, false, true, None};
+ghost use Rattle.model_core.specs.declared.entry.Entry.{Entry};
 ghost use Rattle.heap_rule.specs.Token.{IsIn};
+ghost use Rattle.run_alone.specs.Idling.{Idles, Over};
 ghost use Rattle.run_turns.specs.declared.supply.Supply.TheVariants.{Closed};
 
 use heap_rule::Heap;
@@ -16,6 +18,7 @@ pub fn end(heap: &Heap, run: &mut DomainRun)
     requires running { run.old.ended ≡ false }
     ensures here { IsIn run.new.token heap.now }
     ensures ended { run.new.ended ≡ true }
+    ensures over { (front : List Entry) → Idles heap.now front run.old → Over heap.now front run.new }
 {
     'turns: loop {
         go_on(heap, run);

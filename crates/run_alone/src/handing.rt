@@ -37,6 +37,7 @@ pub fn hand_in(heap: &Heap, run: &mut DomainRun, command: Command) -> Option<Rep
     ensures awaits { result ≡ None → Awaits heap.now run.old.token.view command run.new }
     ensures unasked { run.new.asked ≡ None }
     ensures last { last_of heap.now.config run.new ≡ last_of heap.now.config run.old }
+    ensures arrivals { run.new.token.view.own.arrivals ≡ run.old.token.view.own.arrivals }
 {
     if let Some(reply) = at_once(heap, run, command) {
         run.shows_faithful();

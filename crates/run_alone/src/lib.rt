@@ -14,5 +14,4 @@ mod wishing;
 pub use ending::end;
 pub use handing::hand_in;
 pub use pausing::come_back;
-pub use performing::perform;
-pub use serving::make;
+pub use performing::finish;

@@ -1,6 +1,6 @@
 //! A pause of a heap's only domain.
-ghost use Rattle.std.specs.Prelude.{◌≡◌, ◌≢◌, ◌<◌, ◌≤◌, ◌^◌, ◌⊎◌, [], vec_capacity, None};
-ghost use Rattle.run_alone.specs.Lone.{IsLone, IsPausing, Tells, decides};
+ghost use Rattle.std.specs.Prelude.{◌≡◌, ◌≢◌, ◌<◌, ◌^◌, ◌⊎◌, [], length, vec_capacity, None};
+ghost use Rattle.run_alone.specs.Lone.{ComesBack, IsLone, IsPausing, decides};
 ghost use Rattle.run_alone.specs.Paces.{last_of};
 
 use crate::passing::pass_alone;
@@ -50,20 +50,14 @@ pub(crate) fn pause(
     }
 }
 
-/// Takes a domain that has asked for no pause, and that may have arrived, back to where it runs.
+/// Takes a domain that may have arrived back to where it runs. It has asked for no pause, or has no command to make.
 pub fn come_back(heap: &Heap, run: DomainRun, room: &mut Vec<Domain>) -> DomainRun
     requires lone { IsLone heap.now run }
-    requires unasked { run.asked ≡ None }
+    requires calm { (run.asked ≡ None) ⊎ (run.next ≡ length run.commands) }
     requires few { last_of heap.now.config run < 2 ^ 60 }
     requires empty { room.old.items ≡ [] }
     requires fits { 1 < vec_capacity room.old }
-    ensures lone { IsLone heap.now result }
-    ensures runs { result.left ≡ None }
-    ensures commands { result.commands ≡ run.commands }
-    ensures next { result.next ≡ run.next }
-    ensures unasked { result.asked ≡ None }
-    ensures tells { Tells heap.now run result }
-    ensures spends { last_of heap.now.config result ≤ last_of heap.now.config run }
+    ensures back { ComesBack heap.now run result }
     ensures room { (room.new.items ≡ []) × (vec_capacity room.new ≡ vec_capacity room.old) }
 {
     pause(heap, run, room, false)

@@ -1,7 +1,7 @@
 //! A command of a heap's only domain.
 ghost use Rattle.std.specs.Prelude.{◌≡◌, ◌≢◌, ◌<◌, ◌≤◌, ◌+◌, ◌*◌, ◌^◌, [], length, vec_capacity, None};
 ghost use Rattle.run_alone.specs.Lone.{IsLone, ServesOn, Tells, Wants};
-ghost use Rattle.run_alone.specs.Paces.{last_of, most_in_pause};
+ghost use Rattle.run_alone.specs.Paces.{IsPaced, last_of, most_in_pause};
 
 use crate::pausing::{come_back, pause};
 use crate::trying::{try_on, wants};
@@ -43,6 +43,7 @@ fn serve_last(heap: &Heap, run: DomainRun, room: &mut Vec<Domain>) -> DomainRun
     ensures tells { Tells heap.now run result }
     ensures made { result.next ≢ run.next }
     ensures spends { last_of heap.now.config result ≤ last_of heap.now.config run + most_in_pause }
+    ensures paced { IsPaced heap.now.config result }
     ensures room { (room.new.items ≡ []) × (vec_capacity room.new ≡ vec_capacity room.old) }
 {
     let next = run.next();
@@ -68,6 +69,7 @@ fn serve_first(heap: &Heap, run: DomainRun, room: &mut Vec<Domain>) -> DomainRun
     ensures tells { Tells heap.now run result }
     ensures made { result.next ≢ run.next }
     ensures spends { last_of heap.now.config result ≤ last_of heap.now.config run + 2 * most_in_pause }
+    ensures paced { IsPaced heap.now.config result }
     ensures room { (room.new.items ≡ []) × (vec_capacity room.new ≡ vec_capacity room.old) }
 {
     let next = run.next();
@@ -97,6 +99,7 @@ fn make_on(heap: &Heap, run: DomainRun, room: &mut Vec<Domain>) -> DomainRun
     ensures tells { Tells heap.now run result }
     ensures made { result.next ≢ run.next }
     ensures spends { last_of heap.now.config result ≤ last_of heap.now.config run + 2 * most_in_pause }
+    ensures paced { IsPaced heap.now.config result }
     ensures room { (room.new.items ≡ []) × (vec_capacity room.new ≡ vec_capacity room.old) }
 {
     let next = run.next();
@@ -123,6 +126,7 @@ pub fn make(heap: &Heap, run: DomainRun, room: &mut Vec<Domain>) -> DomainRun
     ensures tells { Tells heap.now run result }
     ensures made { result.next ≢ run.next }
     ensures spends { last_of heap.now.config result ≤ last_of heap.now.config run + 3 * most_in_pause }
+    ensures paced { IsPaced heap.now.config result }
     ensures room { (room.new.items ≡ []) × (vec_capacity room.new ≡ vec_capacity room.old) }
 {
     let next = run.next();

@@ -1,112 +1,187 @@
--- A turn of the run of a session.
-use Rattle.std.proofs.Common.{◌≡◌, ◌∙◌, ℕ, ◌+◌, ◌<◌, Bool, true, false, List, [], ◌∷◌, ◌++◌, length, refl, sym, ap, subst, arith}
-use Rattle.std.proofs.lemmas.Option.{slice_get_within}
+-- The run of a session, as it makes a command and as its trace ends.
+use Rattle.std.proofs.Common.{drop, List, ◌≡◌, ◌≢◌, ◌∙◌, ℕ, ◌+◌, ◌*◌, ◌<◌, ◌≤◌, ◌-◌, ◌^◌, ◌++◌, ◌∷◌, [], Option, Some, None, length, refl, sym, ap, subst, arith}
 use Rattle.model_core.specs.declared.command.Command as model
 use Rattle.model_core.specs.declared.entry.Entry.{Entry}
-use Rattle.model_core.specs.declared.entry.Entry.TheVariants.{End, Ran}
 use Rattle.model_core.specs.declared.reply.Reply.{Reply}
-use Rattle.model_core.specs.declared.reply.Applied.TheVariants.{Replied, Silent}
 use Rattle.model_core.specs.declared.state.Sizes.{Sizes}
+use Rattle.model_core.specs.Counts.Counts.{ephemerons_given, labels_given}
 use Rattle.model_core.specs.Domains.{IsWithinLimits}
-use Rattle.model_core.specs.Fronts.{IsFrontOf}
+use Rattle.model_core.specs.History.{Legal}
+use Rattle.heap_rule.specs.declared.config.Config.{Config}
 use Rattle.heap_rule.specs.Limits.{sizes_in}
 use Rattle.heap_rule.specs.Token.{SharedHeap, IsIn}
-use Rattle.run_turns.specs.declared.supply.Supply.{Supply}
-use Rattle.run_turns.specs.declared.supply.Supply.TheVariants.{Section, Closed}
-use Rattle.run_turns.specs.Runs.{RunView, Appended, GoesOn, IsRun, Stretches, ran_with}
-use Rattle.run_turns.specs.Runs.Stretches.{ByOthers, ByCommand, ByFinaliser, ByEnd, BySection}
-use Rattle.run_turns.proofs.Handed.{finalised_more, finalised_none, finalised_others}
-use Rattle.run_session.proofs.Labels.{made_labels}
-use Rattle.run_turns.specs.Singly.Driving.{Answered}
-use Rattle.run_turns.proofs.OfSingly.Driven.{closed_handed, none_fits}
 use Rattle.run_turns.specs.Handed.{PerformedOn}
-use Rattle.run_session.specs.Driving.{CloseAnswers, Closes, IsAlone, Rests}
-use Rattle.model_core.specs.Counts.Counts.{labels_given}
+use Rattle.run_turns.specs.declared.supply.Supply.{Supply}
+use Rattle.run_turns.specs.declared.supply.Supply.TheVariants.{Open, Closed}
+use Rattle.run_turns.specs.Runs.{HasLabels, HasLooked, IsRun, MaySubmit, RunView, labels_in, registrations_in}
+use Rattle.run_turns.specs.Singly.Driving.{Awaits}
+use Rattle.run_turns.specs.Tries.{registrations_of}
+use Rattle.step_finalisers.specs.Registering.{count_of}
+use Rattle.run_alone.specs.Idling.{Idles, Over}
+use Rattle.run_alone.specs.Lone.{ComesBack}
+use Rattle.run_alone.proofs.Idling.{idles_closed, idles_now}
+use Rattle.run_alone.specs.Paces.{IsPaced, last_of, most_in_pause}
+use Rattle.run_alone.proofs.Paces.{last_high}
+use Rattle.run_alone.proofs.Served.{lone_looked}
+use Rattle.run_alone.proofs.Walking.{zeroth}
+use Rattle.run_session.proofs.Labels.{made_labels}
+use Rattle.run_session.specs.Driving.{Finishes, HasGivenOut, Makes, Rests, RestsIn, session_of}
+use Rattle.run_session.specs.Sessions.{MayPerform, SessionView, most_arrivals, most_spent}
 
-still_alone : (h : SharedHeap) (old new : RunView) → IsAlone h old → IsIn new.token h → GoesOn old new → IsAlone h new
-still_alone h old new a here g = record { here = here; one = a.one; number = g.number ∙ a.number }
+-- a run that rests is there
+pub there : (h : SharedHeap) (o : Option RunView) → RestsIn h o → o ≢ None
+there h o i none = let e : ◌≡◌ {A = Option RunView} (Some i.run) None = sym i.there ∙ none in cc
 
--- a turn of one that gets no more
-pub closes_turn : (h : SharedHeap) (front : List Entry) (old new : RunView) → Closes h front old → IsIn new.token h → Stretches (sizes_in h.config) old new → GoesOn old new → IsRun new → CloseAnswers h front new new.ended
-closes_turn h front old new a here s g is = by s
-  where
-    z : Sizes
-    z = sizes_in h.config
+pub rests_as : (h : SharedHeap) (o : Option RunView) (r : RunView) → RestsIn h o → o ≡ Some r → Rests h r
+rests_as h o r i is = let e : ◌≡◌ {A = Option RunView} (Some i.run) (Some r) = sym i.there ∙ is in let same : i.run ≡ r = cc in subst (Rests h) same i.rests
 
-    alone : IsAlone h new
-    alone = still_alone h old new a.alone here g
+-- it has arrived no more often than it may
+pub arrived : (h : SharedHeap) (r : RunView) → Rests h r → r.token.view.own.arrivals ≤ most_arrivals
+arrived h r rests = let high = last_high (h.config.pools * 1024) r.token.view.own.arrivals r.left r.token.view.seen.share.progress r.token.view.seen.share.unmarked in let few = rests.few in omega (arith, high, few)
 
-    closed : new.supply ≡ Closed
-    closed = g.supply ∙ a.closed
+-- and may still as often as a command takes
+pub few_left : (h : SharedHeap) (r : RunView) → Rests h r → r.token.view.own.arrivals + most_spent ≤ most_arrivals → last_of h.config r + 3 * most_in_pause < 2 ^ 60
+few_left h r rests may = let paced = rests.paced in omega (arith, paced, may)
 
-    by : Stretches z old new → CloseAnswers h front new new.ended
-    by (ByOthers m) =
-        let running : new.ended ≡ false = m.ended ∙ a.running in
-        let later : IsFrontOf 0 new.token.view.seen.front old.token.view.seen.front = subst (λ (d : ℕ). IsFrontOf d new.token.view.seen.front old.token.view.seen.front) a.alone.number m.front in
-        subst (CloseAnswers h front new) (sym running) (record {
-          alone = alone;
-          closed = closed;
-          done = m.next ∙ (a.done ∙ sym (ap (λ (cs : List model.Command). length cs) g.commands));
-          running = running;
-          ran = a.ran;
-          finalised = finalised_others z 0 front old.token.view.seen.front new.token.view.seen.front a.ran a.finalised later;
-          none = a.none;
-        })
-    by (ByCommand m) = absurd (let below : old.next < length old.commands = slice_get_within old.commands old.next m.command m.here in let done : old.next ≡ length old.commands = a.done in omega (arith, below, done))
-    by (ByFinaliser m) =
-        let running : new.ended ≡ false = m.ended ∙ a.running in
-        let ran : new.ran ≡ old.ran ++ m.reply ∷ [] = m.ran ∙ ap (λ (s : Supply). ran_with s old.ran m.reply) a.closed in
-        let last : Appended z 0 old.token.view.seen.front new.token.view.seen.front (Ran 0) (Replied m.reply) = subst (λ (d : ℕ). Appended z d old.token.view.seen.front new.token.view.seen.front (Ran d) (Replied m.reply)) a.alone.number m.front in
-        subst (CloseAnswers h front new) (sym running) (record {
-          alone = alone;
-          closed = closed;
-          done = m.next ∙ (a.done ∙ sym (ap (λ (cs : List model.Command). length cs) g.commands));
-          running = running;
-          ran = a.ran ++ m.reply ∷ [];
-          finalised = finalised_more z 0 front old.token.view.seen.front new.token.view.seen.front a.ran m.reply a.finalised last;
-          none = λ no_room. absurd (none_fits h old new m.reply (closed_handed new.supply closed) here no_room is ran);
-        })
-    by (BySection m) = absurd (let clash : Closed ≡ Section = sym a.closed ∙ m.sectioned in cc)
-    by (ByEnd m) =
-        let last : Appended z 0 old.token.view.seen.front new.token.view.seen.front (End 0) Silent =
-        subst (λ (d : ℕ). Appended z d old.token.view.seen.front new.token.view.seen.front (End d) Silent) a.alone.number m.front in
-        let before : List Entry = old.token.view.seen.front ++ last.between in
-        subst (CloseAnswers h front new) (sym m.ended) (record {
-          alone = alone;
-          ended = m.ended;
-          before = before;
-          ran = a.ran;
-          finalised = finalised_others z 0 front old.token.view.seen.front before a.ran a.finalised (record { rest = last.between; appends = refl; others = last.others });
-          none = a.none;
-          front = last.appends;
-        })
+-- what was made
+module _ (h : SharedHeap) (o p : Option RunView) (c : model.Command) (reply : Reply) (limits : IsWithinLimits (sizes_in h.config)) (i : RestsIn h o) (m : Makes h o p c reply) where
+  abbrev old : SessionView
+  old = session_of h.config o
 
--- its number is 0
-pub performed : (h : SharedHeap) (r n : RunView) (c : model.Command) (reply : Reply) → Rests h r → Answered h r.token.view c reply n → PerformedOn (sizes_in h.config) 0 r.token.view.seen.front n.token.view.seen.front c n.ran reply
-performed h r n c reply rests a = subst (λ (d : ℕ). PerformedOn (sizes_in h.config) d r.token.view.seen.front n.token.view.seen.front c n.ran reply) rests.alone.number a.performed
+  abbrev new : SessionView
+  new = session_of h.config p
 
--- and rests again once it has made it
-pub rests_again : (h : SharedHeap) (r n : RunView) (c : model.Command) (reply : Reply) → IsWithinLimits (sizes_in h.config) → Rests h r → Answered h r.token.view c reply n → Rests h n
-rests_again h r n c reply limits rests a = record {
-  alone = record { here = a.here; one = rests.alone.one; number = a.number ∙ rests.alone.number };
-  more = a.more;
-  done = a.done;
-  legal = a.performed.legal;
-  given = a.takes.labels_are ∙ (ap (λ (m : ℕ). m + labels_given c reply) rests.given ∙ sym (made_labels (sizes_in h.config) limits r.token.view.seen.front n.token.view.seen.front c n.ran reply (performed h r n c reply rests a)));
+  was : Rests h m.old
+  was = rests_as h o m.old i m.was
+
+  number : m.old.token.view.own.number ≡ 0
+  number = zeroth h m.old was.lone
+
+  made : PerformedOn (sizes_in h.config) 0 m.old.token.view.seen.front m.new.token.view.seen.front c m.new.ran reply
+  made = subst (λ (d : ℕ). PerformedOn (sizes_in h.config) d m.old.token.view.seen.front m.new.token.view.seen.front c m.new.ran reply) number m.answered.performed
+
+  before : old ≡ session_of h.config (Some m.old)
+  before = ap (session_of h.config) m.was
+
+  after : new ≡ session_of h.config (Some m.new)
+  after = ap (session_of h.config) m.is
+
+  pub makes_performed : PerformedOn (sizes_in old.config) 0 old.front new.front c new.ran reply
+  makes_performed = subst (λ (w : SessionView × SessionView). PerformedOn (sizes_in w.0.config) 0 w.0.front w.1.front c w.1.ran reply) (λ j. (sym before j, sym after j)) made
+
+  pub makes_config : new.config ≡ old.config
+  makes_config = ap (λ (v : SessionView). v.config) after ∙ sym (ap (λ (v : SessionView). v.config) before)
+
+  pub makes_labels : new.labels ≡ old.labels + labels_given c reply
+  makes_labels = ap (λ (v : SessionView). v.labels) after ∙ (m.answered.takes.labels_are ∙ ap (λ (v : SessionView). v.labels + labels_given c reply) (sym before))
+
+  pub makes_room : old.room ≤ new.room + ephemerons_given c reply
+  makes_room = let room = m.answered.takes.room in let now = ap (λ (v : SessionView). v.room) after in let then = ap (λ (v : SessionView). v.room) before in omega (arith, room, now, then)
+
+  pub makes_finals : old.finals + length new.ran ≤ new.finals + registrations_of c
+  makes_finals =
+      let listed = m.answered.listed in
+      let few = was.lone.is.enlists in
+      let same : m.old.token.config.finals ≡ h.config.finals = ap (λ (k : Config). k.finals) was.lone.here.1 in
+      let now = ap (λ (v : SessionView). v.finals) after in
+      let then = ap (λ (v : SessionView). v.finals) before in
+      let ran = ap (λ (v : SessionView). length v.ran) after in
+      omega (arith, listed, few, same, now, then, ran)
+
+  pub makes_arrivals : new.stats.arrivals ≤ old.stats.arrivals + most_spent
+  makes_arrivals =
+      let high = last_high (h.config.pools * 1024) m.new.token.view.own.arrivals m.new.left m.new.token.view.seen.share.progress m.new.token.view.seen.share.unmarked in
+      let spends = m.spends in
+      let paced = was.paced in
+      let now = ap (λ (v : SessionView). v.stats.arrivals) after in
+      let then = ap (λ (v : SessionView). v.stats.arrivals) before in
+      omega (arith, high, spends, paced, now, then)
+
+  pub makes_rests : old.stats.arrivals + most_spent ≤ most_arrivals → RestsIn h p
+  makes_rests may = record {
+    run = m.new;
+    there = m.is;
+    rests = record {
+      lone = m.lone;
+      done = m.answered.done;
+      legal = made.legal;
+      given = m.answered.takes.labels_are ∙ (ap (λ (n : ℕ). n + labels_given c reply) was.given ∙ sym (made_labels (sizes_in h.config) limits m.old.token.view.seen.front m.new.token.view.seen.front c m.new.ran reply made));
+      paced = m.paced;
+      few =
+          let spends = m.spends in
+          let few = few_left h m.old was (let then = ap (λ (v : SessionView). v.stats.arrivals) before in omega (arith, may, then)) in
+          omega (arith, spends, few);
+    };
+  }
+
+-- a look at the want word leaves a run that rests as it is
+pub rests_looked : (h : SharedHeap) (r s : RunView) → Rests h r → HasLooked r s → IsIn s.token h → IsRun s → Rests h s
+rests_looked h r s rests k here is = record {
+  lone = lone_looked h r s rests.lone k here is;
+  done = ap (λ (v : RunView). v.next) k.run ∙ (rests.done ∙ sym (ap (λ (v : RunView). length v.commands) k.run));
+  legal = subst (λ (v : RunView). Legal (sizes_in h.config) v.token.view.seen.front) (sym k.run) rests.legal;
+  given = subst (λ (v : RunView). HasGivenOut h v.token.view) (sym k.run) rests.given;
+  paced = subst (λ (v : RunView). IsPaced h.config v) (sym k.run) rests.paced;
+  few = subst (λ (v : RunView). last_of h.config v < 2 ^ 60) (sym k.run) rests.few;
 }
 
--- a run that rests and gets no more is about to end
-pub closed : (h : SharedHeap) (r new : RunView) → Rests h r → IsRun r → new ≡ record r { supply = Closed } → Closes h r.token.view.seen.front new
-closed h r new rests is same = subst (λ (x : RunView). Closes h r.token.view.seen.front x) (sym same) (record {
-  alone = record { here = rests.alone.here; one = rests.alone.one; number = rests.alone.number };
-  closed = refl;
-  done = rests.done;
-  running = by r.ended refl;
-  ran = [];
-  finalised = finalised_none (sizes_in h.config) 0 r.token.view.seen.front;
-  none = λ _. refl;
-})
-  where
-    by : (b : Bool) → r.ended ≡ b → r.ended ≡ false
-    by false e = e
-    by true e = absurd (is.shut e rests.more)
+pub looked_same : (k : Config) (r s : RunView) → HasLooked r s → session_of k (Some s) ≡ session_of k (Some r)
+looked_same k r s looked = ap (λ (v : RunView). session_of k (Some v)) looked.run
+
+-- it has given out fewer labels than there are
+labels_below : (r : RunView) → IsRun r → r.supply ≡ Open → r.token.view.own.serial < 2 ^ 32
+labels_below r is more = let few : r.token.view.own.serial + labels_in (drop r.next r.commands) < 2 ^ 32 = subst (λ (s : Supply). HasLabels s r.token.view.own.serial r.next r.commands) more is.labels in omega (arith, few)
+
+-- a command may be handed in
+pub may_submit : (h : SharedHeap) (o : Option RunView) (v : SessionView) (c : model.Command) → RestsIn h o → session_of h.config o ≡ v → MayPerform v c → (r : RunView) → o ≡ Some r → MaySubmit r c
+may_submit h o v c i is may r there =
+    let rests = rests_as h o r i there in
+    let seen : session_of h.config (Some r) ≡ v = sym (ap (session_of h.config) there) ∙ is in
+    let takes = may.takes in
+    let enlists : count_of r.token.view.own.finalisers + registrations_in (drop r.next r.commands) ≤ r.token.config.finals = rests.lone.is.enlists in
+    let same : r.token.config.finals ≡ h.config.finals = ap (λ (k : Config). k.finals) rests.lone.here.1 in
+    record {
+      more = rests.lone.more;
+      done = rests.done;
+      fits = takes.fits;
+      enlists =
+          let finals : h.config.finals - count_of r.token.view.own.finalisers ≡ v.finals = ap (λ (w : SessionView). w.finals) seen in
+          let few = takes.enlists in
+          omega (arith, enlists, same, finals, few);
+      room = let room : r.token.view.own.ephemerons.room ≡ v.room = ap (λ (w : SessionView). w.room) seen in let few = takes.room in omega (arith, room, few);
+      labels =
+          let labels : r.token.view.own.serial ≡ v.labels = ap (λ (w : SessionView). w.labels) seen in
+          let few = takes.labels in
+          let below : r.token.view.own.serial < 2 ^ 32 = labels_below r rests.lone.is rests.lone.more in
+          omega (arith, labels, few, below);
+    }
+
+-- and its pauses may come
+pub may_arrive : (h : SharedHeap) (o : Option RunView) (v : SessionView) (c : model.Command) → RestsIn h o → session_of h.config o ≡ v → MayPerform v c → (r : RunView) → o ≡ Some r → last_of h.config r + 3 * most_in_pause < 2 ^ 60
+may_arrive h o v c i is may r there =
+    let seen : r.token.view.own.arrivals ≡ v.stats.arrivals = ap (λ (w : SessionView). w.stats.arrivals) (sym (ap (session_of h.config) there) ∙ is) in
+    let few = may.arrivals in
+    few_left h r (rests_as h o r i there) (omega (arith, seen, few))
+
+-- a command that was handed in and then finished
+pub finishes_makes : (h : SharedHeap) (old mid : RunView) (o p : Option RunView) (c : model.Command) (reply : Reply) → o ≡ Some old → Awaits h old.token.view c mid → last_of h.config mid ≡ last_of h.config old → Finishes h (Some mid) p reply → Makes h o p c reply
+finishes_makes h old mid o p c reply was w last f =
+    let e : ◌≡◌ {A = Option RunView} (Some mid) (Some f.old) = f.was in
+    let same : mid ≡ f.old = cc in record {
+      old = old;
+      was = was;
+      new = f.new;
+      is = f.is;
+      lone = f.lone;
+      answered = f.answered old.token.view c (subst (Awaits h old.token.view c) same w);
+      spends = let spends = f.spends in let equal : last_of h.config f.old ≡ last_of h.config mid = ap (last_of h.config) (sym same) in omega (arith, spends, equal, last);
+      paced = f.paced;
+    }
+
+-- a run that rests comes back, gets no more, and ends
+pub stopped : (h : SharedHeap) (o : Option RunView) (r s t u : RunView) → RestsIn h o → o ≡ Some r → ComesBack h r s → t ≡ record s { supply = Closed } → ((front : List Entry) → Idles h front t → Over h front u) → Over h r.token.view.seen.front u
+stopped h o r s t u i there back closed over =
+    let rests = rests_as h o r i there in
+    let front : List Entry = r.token.view.seen.front in
+    let now : Idles h front r = idles_now h r rests.lone.here (zeroth h r rests.lone) rests.lone.is rests.lone.more rests.done in
+    over front (idles_closed h front s t (back.idles front now) closed)

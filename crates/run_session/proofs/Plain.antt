@@ -29,7 +29,7 @@ registers_none s _ quiet = refl
 module _ (old new : SessionView) (c : model.Command) (r : Reply) (limits : IsWithinLimits (sizes_in old.config)) (one : old.config.domains ≡ 1) (none : old.config.finals ≡ 0) (few : old.finals ≤ old.config.finals) (later : new.finals ≤ new.config.finals) (same : new.config ≡ old.config) (may : MayPerform old c)
     (room : old.finals + length new.ran ≤ new.finals + registrations_of c) (p : PerformedOn (sizes_in old.config) 0 old.front new.front c new.ran r) where
   quiet : registrations_of c ≤ 0
-  quiet = let enlists = may.enlists in omega (arith, enlists, few, none)
+  quiet = let enlists = may.takes.enlists in omega (arith, enlists, few, none)
 
   pub no_run : new.ran ≡ []
   no_run = none_left new.ran (let q = quiet in let equal : new.config.finals ≡ old.config.finals = ap (λ (k : Config). k.finals) same in omega (arith, q, room, later, equal, none))

@@ -1,5 +1,5 @@
 -- A session as its callers see it.
-use Rattle.std.specs.Prelude.{◌≡◌, ℕ, ◌-◌, List, [], Some}
+use Rattle.std.specs.Prelude.{◌≡◌, ℕ, ◌+◌, ◌-◌, ◌≤◌, ◌<◌, List, [], Option, Some, None}
 use Rattle.model_core.specs.declared.command.Command.{Command}
 use Rattle.model_core.specs.declared.entry.Entry.{Entry}
 use Rattle.model_core.specs.declared.reply.Reply.{Reply}
@@ -8,8 +8,10 @@ use Rattle.heap_rule.specs.declared.config.Config.{Config}
 use Rattle.heap_rule.specs.Limits.{first_outside, sizes_in}
 use Rattle.run_turns.specs.Handed.{PerformedOn}
 use Rattle.run_turns.specs.Singly.Counting.{no_stats}
-use Rattle.run_turns.specs.Singly.Refusing.{Takes}
+use Rattle.run_turns.specs.Singly.Refusing.{IsRefused, Takes}
 use Rattle.run_turns.specs.declared.singly.counting.Stats.{Stats}
+use Rattle.run_session.specs.declared.refusing.Refusal.{Refusal}
+use Rattle.run_session.specs.declared.refusing.Refusal.TheVariants.{Unfit, Arrivals}
 
 -- a session: the numbers of its heap, the history so far, how many labels were given out, how many more ephemerons and how many more finalisers fit, what the domain counts, and the replies of the finalisers that ran before its last command
 pub record SessionView : Type 0 where
@@ -41,6 +43,20 @@ PerformsIn old new c r = PerformedOn (sizes_in old.config) 0 old.front new.front
 abbrev pub replies_of : SessionView → List Entry → List Reply
 replies_of s h = replies (sizes_in s.config) h 0
 
--- a session may make this command: it fits the shared heap, and there are room for the ephemeron that it makes and the finaliser that it registers, and a label for a block
-abbrev pub MayPerform : SessionView → Command → Type 0
-MayPerform s c = Takes s.room s.finals (4294967295 - s.labels) c
+-- how often the domain may arrive in all, and how often it does at most for one command
+abbrev pub most_arrivals : ℕ
+most_arrivals = 1152921504606846976
+
+abbrev pub most_spent : ℕ
+most_spent = 268435456
+
+-- a session may make this command: it fits the shared heap, there are room for the ephemeron that it makes and the finaliser that it registers, and a label for a block, and the domain may arrive as often as its pauses take
+pub record MayPerform (s : SessionView) (c : Command) : Type 0 where
+  pub takes : Takes s.room s.finals (4294967295 - s.labels) c
+  pub arrivals : s.stats.arrivals + most_spent ≤ most_arrivals
+
+-- the first of these that is missing
+abbrev pub IsRefusedIn : SessionView → Command → Option Refusal → Type 0
+IsRefusedIn s c None = MayPerform s c
+IsRefusedIn s c (Some (Unfit why)) = IsRefused s.room s.finals (4294967295 - s.labels) c (Some why)
+IsRefusedIn s c (Some Arrivals) = Takes s.room s.finals (4294967295 - s.labels) c × (most_arrivals < s.stats.arrivals + most_spent)

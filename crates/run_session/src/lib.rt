@@ -3,19 +3,20 @@
 //!
 //! ```text
 //! let mut session = Session::make(alloc, 4096, 64, 8, 16)?;
-//! session.perform(rt, Command::Alloc { dst: 1, tag: 0, fields: 2 });
-//! let live = session.perform(rt, Command::FullMajor);
-//! let ended = session.stop(rt);
+//! session.perform(Command::Alloc { dst: 1, tag: 0, fields: 2 });
+//! let live = session.perform(Command::FullMajor);
+//! let ended = session.stop();
 //! ```
 //!
 //! The calls of `weak_tables` on weak arrays and tables take a [`TableSession`], which registers no finaliser.
 #![tactic(auto)]
 
-mod closing;
 pub mod domains;
 mod performing;
+mod refusing;
 mod session;
 mod tables;
 
+pub use refusing::Refusal;
 pub use session::Session;
 pub use tables::TableSession;

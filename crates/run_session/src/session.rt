@@ -7,21 +7,25 @@ ghost use Rattle.model_core.specs.Domains.{IsWithinLimits, domain_at, register a
 ghost use Rattle.model_core.specs.History.{Legal, commands};
 ghost use Rattle.heap_rule.specs.Limits.{sizes_in};
 ghost use Rattle.heap_rule.specs.Rule.{state_of};
-ghost use Rattle.run_session.specs.Sessions.{IsFirstOutside, MayPerform, PerformsIn, alone, fresh, replies_of};
-ghost use Rattle.run_turns.specs.Singly.Refusing.{IsRefused};
+ghost use Rattle.run_session.specs.Sessions.{IsFirstOutside, IsRefusedIn, MayPerform, PerformsIn, alone, fresh, most_arrivals, most_spent, replies_of};
 ghost use Rattle.run_session.specs.Stopping.{EndsAfter, StopsAfter};
 
-use crate::closing::turn_to_end;
-use crate::performing::perform_on;
+use crate::performing::{perform_on, run_in};
+use crate::refusing::Refusal;
 use gc_mark::Hints;
 use heap_rule::{Config, Domain, Ended, Heap, StartFault};
 use model_core::command::Command;
 use model_core::reply::Reply;
-use run_turns::singly::{Refusal, Stats, counts, refuses};
+use run_alone::{come_back, end};
+use run_turns::singly::{Stats, counts, refuses};
 use run_turns::{DomainRun, show};
 use std::alloc::Global;
 use std::marker::Model;
-use std::sync::Wait;
+
+// How often the domain may arrive in all, and how often it does at most for one command.
+const MOST_ARRIVALS: u64 = 1 << 60;
+
+pub(crate) const MOST_SPENT: u64 = 1 << 28;
 
 /// A heap of one domain whose commands are handed in one by one. All memory is taken when it is made. Contracts
 /// see its numbers, the history so far, how many labels were given out, how many more ephemerons and finalisers
@@ -29,23 +33,22 @@ use std::sync::Wait;
 #[derive(Drop)]
 pub struct Session {
     heap: Heap,
-    run: DomainRun,
-    // Room for the domain as the heap ends.
+    // It is there but while a pause is gone through.
+    run: Option<DomainRun>,
+    // Room for the domain as it looks at the barrier, and as the heap ends.
     room: Vec<Domain>,
 }
 
 impl Model for Session {
-    ghost use Rattle.std.specs.Prelude.{◌≡◌, ◌≤◌, ◌-◌, [], vec_capacity};
-    ghost use Rattle.run_session.specs.Driving.{Rests};
+    ghost use Rattle.std.specs.Prelude.{◌≡◌, ◌<◌, [], vec_capacity};
+    ghost use Rattle.run_session.specs.Driving.{RestsIn, session_of};
     ghost use Rattle.run_session.specs.Sessions.{SessionView};
-    ghost use Rattle.run_turns.specs.Singly.Counting.{stats_of};
-    ghost use Rattle.step_finalisers.specs.Registering.{count_of};
 
     ghost Value = { SessionView };
 
-    ghost view = { λ s. record { config = s.heap.config; front = s.run.token.view.seen.front; labels = s.run.token.view.own.serial; room = s.run.token.view.own.ephemerons.room; finals = s.heap.config.finals - count_of s.run.token.view.own.finalisers; stats = stats_of s.run.token.view.own; ran = s.run.ran } };
+    ghost view = { λ s. session_of s.heap.config s.run };
 
-    ghost invariant = { λ s. Rests s.heap s.run × (s.room.items ≡ []) × (1 ≤ vec_capacity s.room) };
+    ghost invariant = { λ s. RestsIn s.heap s.run × (s.room.items ≡ []) × (1 < vec_capacity s.room) };
 }
 
 impl Session {
@@ -72,10 +75,12 @@ impl Session {
             finals,
             ephes,
         };
-        let (heap, mut room) = Heap::start(alloc, config)?;
+        let (heap, mut domains) = Heap::start(alloc, config)?;
         let mut decks = Hints::make(alloc, 1, ephes)?;
-        let domain = room.remove(0);
-        let run = DomainRun::make_open(alloc, domain, decks.remove(0))?;
+        let room = Vec::with_capacity(alloc, 2)?;
+        let run = DomainRun::make_open(alloc, domains.remove(0), decks.remove(0))?;
+        run.shows_faithful();
+        let run = Some(run);
         Ok(Session { heap, run, room })
     }
 
@@ -83,7 +88,7 @@ impl Session {
     pub fn ephes_room(&self) -> usize
         ensures { result ≡ self.now.room }
     {
-        self.run.domain().ephes_room()
+        run_in(&self.run).domain().ephes_room()
     }
 
     /// How many more finalisers can be registered. One that was registered takes room until it has run.
@@ -91,14 +96,23 @@ impl Session {
         ensures { result ≡ self.now.finals }
     {
         let _config = self.heap.config();
-        self.run.domain().finals_room()
+        run_in(&self.run).domain().finals_room()
     }
 
     /// How many labels are left for blocks: 4,294,967,295 less those that were given out.
     pub fn labels_left(&self) -> u32
         ensures { result + self.now.labels ≡ 4294967295 }
     {
-        u32::MAX - self.run.domain().labels_made()
+        u32::MAX - run_in(&self.run).domain().labels_made()
+    }
+
+    /// How often the domain may still arrive: 2^60 times less those that it has. Each command takes 2^28 of them at most, and
+    /// mostly none.
+    pub fn arrivals_left(&self) -> u64
+        ensures { result + self.now.stats.arrivals ≡ most_arrivals }
+    {
+        let _limits = self.heap.config();
+        MOST_ARRIVALS - run_in(&self.run).domain().arrivals()
     }
 
     /// The replies of the finalisers that ran before the last command, since the one before that: `fin` and
@@ -106,7 +120,7 @@ impl Session {
     pub fn ran(&self) -> &[Reply]
         ensures { result.now ≡ self.now.ran }
     {
-        self.run.ran()
+        run_in(&self.run).ran()
     }
 
     /// What the domain counts: labels, words of its minor area, remembered fields, ephemerons, finalisers and arrivals.
@@ -117,22 +131,29 @@ impl Session {
         ensures finals { result.finals + result.lasts + result.waiting + self.now.finals ≡ self.now.config.finals }
     {
         let _config = self.heap.config();
-        let _room = self.run.domain().finals_room();
-        counts(&self.run)
+        let _room = run_in(&self.run).domain().finals_room();
+        counts(run_in(&self.run))
     }
 
     /// Why [`perform`](Session::perform) doesn't take a command: the first that is missing of what it asks. None exactly
     /// where it takes it.
     pub fn refuses(&self, command: &Command) -> Option<Refusal>
         ensures none { (result ≡ None) ↔ MayPerform self.now command.now }
-        ensures why { IsRefused self.now.room self.now.finals (4294967295 - self.now.labels) command.now result }
+        ensures why { IsRefusedIn self.now command.now result }
     {
-        refuses(
+        let lack = refuses(
             command,
             self.ephes_room(),
             self.finals_room(),
             self.labels_left(),
-        )
+        );
+        if let Some(lack) = lack {
+            return Some(Refusal::Unfit(lack));
+        }
+        if self.arrivals_left() < MOST_SPENT {
+            return Some(Refusal::Arrivals);
+        }
+        None
     }
 
     /// There is one domain, the numbers are within their limits, the history so far is legal for them, so many labels
@@ -149,7 +170,7 @@ impl Session {
 
     /// Makes a command, and answers its reply. The command fits the shared heap, its registers are below 16
     /// and its numbers in their ranges, and there are room for an ephemeron that it makes and for a finaliser
-    /// that it registers, and a label for a block.
+    /// that it registers, a label for a block, and arrivals for its pauses. This call waits for nobody, and returns.
     ///
     /// The history grows by entries of the collector and by runs of the finalisers that waited, and then by this
     /// command, and the reply is that of the state before it. [`ran`](Session::ran) has the replies of these
@@ -157,14 +178,14 @@ impl Session {
     /// is taken for the ephemeron that it makes, and there is more only where ephemerons were swept. Room is
     /// taken for the finaliser that it registers, and there is more for each that ran. A pause that the command
     /// needs is gone through by this thread; one in which a `full_major` is answered ends with the next command.
-    /// A domain that has arrived 2^60 times isn't turned any more, and then this call doesn't return.
     #[inline(always)]
-    pub fn perform<R: Wait>(&mut self, rt: &R, command: Command) -> Reply
+    pub fn perform(&mut self, command: Command) -> Reply
         requires may { MayPerform self.old command }
         ensures config { self.new.config ≡ self.old.config }
         ensures labels { self.new.labels ≡ self.old.labels + labels_given command result }
         ensures room { self.old.room ≤ self.new.room + ephemerons_given command result }
         ensures finals { self.old.finals + length self.new.ran ≤ self.new.finals + registrations_of command }
+        ensures arrivals { self.new.stats.arrivals ≤ self.old.stats.arrivals + most_spent }
         ensures performed { PerformsIn self.old self.new command result }
         ensures commands { commands self.new.front 0 ≡ commands self.old.front 0 ++ command ∷ [] }
         ensures replies { replies_of self.old self.new.front ≡ replies_of self.old self.old.front ++
@@ -172,8 +193,7 @@ impl Session {
     {
         let _limits = self.heap.config();
         let _left = self.labels_left();
-        self.run.shows_faithful();
-        perform_on(rt, &self.heap, &mut self.run, command)
+        perform_on(&self.heap, &mut self.run, &mut self.room, command)
     }
 
     /// The reply that shows what a register holds: `int` with an integer, `blk` with the label of a block, or
@@ -183,25 +203,30 @@ impl Session {
         ensures same { self.new ≡ self.old }
         ensures reply { result ≡ shown (register_value (state_of self.old.config self.old.front) 0 r) }
     {
-        show(&self.heap, &mut self.run, r)
+        let Some(run) = &mut self.run else {
+            unreachable!()
+        };
+        let reply = show(&self.heap, run, r);
+        run.shows_faithful();
+        reply
     }
 
     /// Ends the domain's trace and the heap. The finalisers that wait run before that, and what else is registered
     /// never runs. The history of the ended heap is the one so far, then entries of the collector and these runs,
     /// the end of the trace, and maybe more of the collector's. Where there is no room for finalisers none runs.
-    /// As with [`perform`](Session::perform), a domain that has arrived 2^60 times isn't turned any more.
-    pub fn stop<R: Wait>(self, rt: &R) -> Ended
+    /// This call waits for nobody, and returns.
+    pub fn stop(self) -> Ended
         ensures sizes { result.sizes ≡ sizes_in self.config }
         ensures ends { EndsAfter (sizes_in self.config) self.front result.history }
         ensures stops { self.config.finals ≡ 0 → StopsAfter (sizes_in self.config) self.front result.history }
     {
         let Session { heap, run, room } = self;
         let _limits = heap.config();
-        let mut run = run;
-        run.shows_faithful();
-        run.close();
-        let run = turn_to_end(rt, &heap, run);
+        let Some(run) = run else { unreachable!() };
         let mut domains = room;
+        let mut run = come_back(&heap, run, &mut domains);
+        run.close();
+        end(&heap, &mut run);
         domains.push_reserved(run.into_domain());
         heap.stop(domains)
     }

@@ -7,11 +7,11 @@ ghost use Rattle.model_core.specs.Registrations.{all_registered};
 ghost use Rattle.model_core.specs.History.{Legal};
 ghost use Rattle.heap_rule.specs.Limits.{sizes_in};
 ghost use Rattle.heap_rule.specs.Rule.{state_of};
-ghost use Rattle.run_session.specs.Sessions.{IsFirstOutside, MayPerform, alone, fresh};
+ghost use Rattle.run_session.specs.Sessions.{IsFirstOutside, MayPerform, alone, fresh, most_arrivals, most_spent};
 ghost use Rattle.run_session.specs.Stopping.{StopsAfter};
 ghost use Rattle.weak_laws.specs.Tables.Performing.{Performed};
 
-use crate::session::Session;
+use crate::session::{MOST_SPENT, Session};
 use heap_rule::{Ended, StartFault};
 use model_core::command::Command;
 use model_core::reply::Reply;
@@ -70,6 +70,13 @@ impl TableSession {
         self.session.labels_left()
     }
 
+    /// How often the domain may still arrive, as [`Session::arrivals_left`].
+    pub fn arrivals_left(&self) -> u64
+        ensures { result + self.now.stats.arrivals ≡ most_arrivals }
+    {
+        self.session.arrivals_left()
+    }
+
     /// There is one domain, the numbers are within their limits, the history so far is legal for them and registers no
     /// finaliser, and so many labels were given out as it says.
     pub fn shows_legal(&self)
@@ -85,15 +92,16 @@ impl TableSession {
     /// Makes a command that registers no finaliser, and answers its reply, as [`Session::perform`]. The history grows
     /// by entries of the collector and then by this command, and the reply is that of the state before it.
     #[inline(always)]
-    pub fn perform<R: Wait>(&mut self, rt: &R, command: Command) -> Reply
+    pub fn perform(&mut self, command: Command) -> Reply
         requires may { MayPerform self.old command }
         ensures config { self.new.config ≡ self.old.config }
         ensures labels { self.new.labels ≡ self.old.labels + labels_given command result }
         ensures room { self.old.room ≤ self.new.room + ephemerons_given command result }
+        ensures arrivals { self.new.stats.arrivals ≤ self.old.stats.arrivals + most_spent }
         ensures performed { Performed (sizes_in self.old.config) self.old.front self.new.front command result }
     {
         self.session.shows_legal();
-        let reply = self.session.perform(rt, command);
+        let reply = self.session.perform(command);
         self.session.shows_legal();
         reply
     }
@@ -109,12 +117,24 @@ impl TableSession {
 
     /// Ends the domain's trace and the heap. The history of the ended heap is the one so far, then entries of
     /// the collector, the end of the trace, and maybe more of the collector's.
-    pub fn stop<R: Wait>(self, rt: &R) -> Ended
+    pub fn stop(self) -> Ended
         ensures sizes { result.sizes ≡ sizes_in self.config }
         ensures stops { StopsAfter (sizes_in self.config) self.front result.history }
     {
-        self.session.stop(rt)
+        self.session.stop()
     }
+}
+
+/// Whether the domain of a session may arrive as often as one command takes at most. Where it may not this waits for ever.
+#[inline(always)]
+pub(crate) fn await_arrivals<R: Wait>(rt: &R, session: &TableSession)
+    ensures few { session.now.stats.arrivals + most_spent ≤ most_arrivals }
+{
+    if session.arrivals_left() >= MOST_SPENT {
+        return;
+    }
+    'ever: for _ in rt.forever() {}
+    unreachable!()
 }
 
 impl Machine for TableSession {
@@ -136,6 +156,7 @@ impl Machine for TableSession {
     }
 
     fn perform<R: Wait>(&mut self, rt: &R, c: Command) -> Reply {
-        TableSession::perform(self, rt, c)
+        await_arrivals(rt, self);
+        TableSession::perform(self, c)
     }
 }

@@ -70,7 +70,7 @@ pub(crate) fn run_table<R: Wait, K: Sink>(
     let mut domain = OneDomain { machine: session };
     let replies = run_text(&mut domain, rt, text, room);
     let OneDomain { machine } = domain;
-    let ended = Some(machine.stop(rt));
+    let ended = Some(machine.stop());
     match write_answers(out, &replies) {
         Ok(()) => Status::Done { ended },
         Err(Failed) => Status::WriteFault { ended },

@@ -2,10 +2,11 @@
 ghost use Rattle.std.specs.Prelude.{◌≡◌, ◌+◌, ◌-◌, ◌≤◌};
 ghost use Rattle.model_core.specs.Counts.Counts.{ephemerons_given, labels_given};
 ghost use Rattle.heap_rule.specs.Limits.{sizes_in};
-ghost use Rattle.run_session.specs.Sessions.{MayPerform};
+ghost use Rattle.run_turns.specs.Singly.Refusing.{Takes};
 ghost use Rattle.weak_laws.specs.Tables.Performing.{Performed};
 
 use crate::TableSession;
+use crate::tables::await_arrivals;
 use heap_rule::Config;
 use model_core::command::Command;
 use model_core::reply::Reply;
@@ -49,15 +50,17 @@ impl SessionDomain {
         &self.session
     }
 
-    /// Makes a command of any kind but one that registers a finaliser, as the session does.
+    /// Makes a command of any kind but one that registers a finaliser, as the session does. Where the domain may not arrive
+    /// as often any more as the command may take this doesn't return.
     pub fn command<R: Wait>(&mut self, rt: &R, command: Command) -> Reply
-        requires may { MayPerform self.old command }
+        requires may { Takes self.old.room self.old.finals (4294967295 - self.old.labels) command }
         ensures config { self.new.config ≡ self.old.config }
         ensures labels { self.new.labels ≡ self.old.labels + labels_given command result }
         ensures room { self.old.room ≤ self.new.room + ephemerons_given command result }
         ensures performed { Performed (sizes_in self.old.config) self.old.front self.new.front command result }
     {
-        self.session.perform(rt, command)
+        await_arrivals(rt, &self.session);
+        self.session.perform(command)
     }
 }
 
@@ -92,6 +95,7 @@ impl Machine for SessionDomain {
 
     #[inline(always)]
     fn perform<R: Wait>(&mut self, rt: &R, c: Command) -> Reply {
-        self.session.perform(rt, c)
+        await_arrivals(rt, &self.session);
+        self.session.perform(c)
     }
 }

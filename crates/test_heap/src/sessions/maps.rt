@@ -82,12 +82,14 @@ fn kept(rt: &impl Wait, heap: &mut SessionDomain, key: u8) -> Reply
 }
 
 // Lets go of what a register holds, and has the heap collect.
-fn let_go(rt: &impl Wait, heap: SessionDomain, register: u8) -> SessionDomain
+fn let_go(heap: SessionDomain, register: u8) -> SessionDomain
     requires { register < 16 }
 {
     let mut session = heap.into_inner();
-    session.perform(rt, Command::Forget { dst: register });
-    session.perform(rt, Command::FullMajor);
+    if session.arrivals_left() >= 1 << 29 {
+        session.perform(Command::Forget { dst: register });
+        session.perform(Command::FullMajor);
+    }
     SessionDomain::new(session)
 }
 
@@ -133,10 +135,10 @@ fn a_map_loses_dead_keys(rt: HostRuntime) -> Result<(), Fail> {
     with_map(&rt, &mut heap);
     same(&rt, put(&rt, &mut heap, 1, 3), Some(Reply::Done));
     same(&rt, put(&rt, &mut heap, 2, 3), Some(Reply::Done));
-    let mut heap = let_go(&rt, heap, 1);
+    let mut heap = let_go(heap, 1);
     same(&rt, map_clean(&mut heap, &rt, HOME), false);
     same(&rt, get(&rt, &mut heap, 2), Reply::Int(9));
-    let mut heap = let_go(&rt, heap, 2);
+    let mut heap = let_go(heap, 2);
     same(&rt, map_clean(&mut heap, &rt, HOME), true);
     Ok(())
 }
@@ -162,13 +164,13 @@ fn a_map_is_swept(rt: HostRuntime) -> Result<(), Fail> {
     with_map(&rt, &mut heap);
     same(&rt, put(&rt, &mut heap, 1, 3), Some(Reply::Done));
     same(&rt, put(&rt, &mut heap, 2, 3), Some(Reply::Done));
-    let mut heap = let_go(&rt, heap, 1);
+    let mut heap = let_go(heap, 1);
     same(&rt, field(&rt, &mut heap, 2), block(4));
     map_sweep(&mut heap, &rt, HOME);
     same(&rt, field(&rt, &mut heap, 2), Reply::Int(0));
     same(&rt, field(&rt, &mut heap, 3), block(5));
     same(&rt, get(&rt, &mut heap, 2), Reply::Int(9));
-    let mut heap = let_go(&rt, heap, 2);
+    let mut heap = let_go(heap, 2);
     map_sweep(&mut heap, &rt, HOME);
     same(&rt, field(&rt, &mut heap, 3), Reply::Int(0));
     Ok(())
@@ -213,7 +215,7 @@ fn a_cache_keeps_the_last_used(rt: HostRuntime) -> Result<(), Fail> {
     same(&rt, kept(&rt, &mut heap, 1), block(3));
     same(&rt, keep(&rt, &mut heap, 0, 5), Some(Reply::BadType));
     same(&rt, kept(&rt, &mut heap, 5), Reply::BadType);
-    let mut heap = let_go(&rt, heap, ANSWER);
+    let mut heap = let_go(heap, ANSWER);
     same(&rt, kept(&rt, &mut heap, 3), block(2));
     same(&rt, kept(&rt, &mut heap, 1), block(3));
     same(

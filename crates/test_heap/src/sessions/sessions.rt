@@ -3,17 +3,16 @@ use crate::sessions::same::same;
 use model_core::command::Command;
 use model_core::label::Label;
 use model_core::reply::Reply;
-use run_session::Session;
-use run_turns::singly::Refusal;
-use std::sync::Wait;
+use run_session::{Refusal, Session};
+use run_turns::singly::Refusal as Lack;
 use std::test::Fail;
 
 // Makes a command, where the session takes it.
-fn made(rt: &impl Wait, session: &mut Session, command: Command) -> Option<Reply> {
+fn made(session: &mut Session, command: Command) -> Option<Reply> {
     if session.refuses(&command).is_some() {
         return None;
     }
-    Some(session.perform(rt, command))
+    Some(session.perform(command))
 }
 
 const fn block(serial: u32) -> Reply {
@@ -28,29 +27,29 @@ fn a_program_drives_a_heap(rt: HostRuntime) -> Result<(), Fail> {
         tag: 0,
         fields: 2,
     };
-    same(&rt, made(&rt, &mut session, alloc), Some(block(1)));
+    same(&rt, made(&mut session, alloc), Some(block(1)));
     let ephe = Command::Ephe { dst: 3, keys: 1 };
-    same(&rt, made(&rt, &mut session, ephe), Some(block(2)));
+    same(&rt, made(&mut session, ephe), Some(block(2)));
     let set = Command::SetKey {
         ephe: 3,
         index: 0,
         item: 1,
     };
-    same(&rt, made(&rt, &mut session, set), Some(Reply::Done));
+    same(&rt, made(&mut session, set), Some(Reply::Done));
     same(&rt, session.show(1), block(1));
     let forget = Command::Forget { dst: 1 };
-    same(&rt, made(&rt, &mut session, forget), Some(Reply::Done));
+    same(&rt, made(&mut session, forget), Some(Reply::Done));
     let live = Reply::Live {
         blocks: 2,
         words: 22,
     };
     let collect = Command::FullMajor;
-    same(&rt, made(&rt, &mut session, collect), Some(live));
+    same(&rt, made(&mut session, collect), Some(live));
     let check = Command::CheckKey { ephe: 3, index: 0 };
-    same(&rt, made(&rt, &mut session, check), Some(Reply::No));
+    same(&rt, made(&mut session, check), Some(Reply::No));
     same(&rt, session.labels_left(), u32::MAX - 2);
     session.shows_legal();
-    session.stop(&rt).shows_legal();
+    session.stop().shows_legal();
     Ok(())
 }
 
@@ -65,22 +64,26 @@ fn finalisers_run_between_commands(rt: HostRuntime) -> Result<(), Fail> {
             tag: 0,
             fields: 1,
         };
-        same(&rt, made(&rt, &mut session, alloc), Some(block(number + 1)));
+        same(&rt, made(&mut session, alloc), Some(block(number + 1)));
         let finalise = Command::Finalise {
             item: 1,
             number,
             dst: 5,
         };
-        same(&rt, made(&rt, &mut session, finalise), Some(Reply::Done));
+        same(&rt, made(&mut session, finalise), Some(Reply::Done));
     }
     same(&rt, session.finals_room(), 1);
     let outside = Command::Forget { dst: 16 };
-    same(&rt, session.refuses(&outside), Some(Refusal::Shape));
+    same(
+        &rt,
+        session.refuses(&outside),
+        Some(Refusal::Unfit(Lack::Shape)),
+    );
     let forget = Command::Forget { dst: 1 };
-    same(&rt, made(&rt, &mut session, forget), Some(Reply::Done));
-    made(&rt, &mut session, Command::FullMajor);
+    same(&rt, made(&mut session, forget), Some(Reply::Done));
+    made(&mut session, Command::FullMajor);
     same(&rt, session.ran().len(), 0);
-    let polled = made(&rt, &mut session, Command::Poll);
+    let polled = made(&mut session, Command::Poll);
     same(&rt, polled, Some(Reply::Done));
     let ran = session.ran();
     same(&rt, ran.len(), 3);
@@ -97,6 +100,6 @@ fn finalisers_run_between_commands(rt: HostRuntime) -> Result<(), Fail> {
     }
     same(&rt, session.finals_room(), 4);
     same(&rt, session.show(5), block(1));
-    session.stop(&rt).shows_legal();
+    session.stop().shows_legal();
     Ok(())
 }

@@ -5,7 +5,7 @@ use Rattle.run_turns.specs.Singly.Driving.{Awaits}
 use Rattle.run_turns.proofs.OfSingly.Begun.{now_answered}
 use Rattle.run_alone.specs.Lone.{IsLone}
 use Rattle.run_alone.specs.Paces.{last_of}
-use Rattle.run_alone.proofs.Handed.{made_lone, made_last, made_unasked, off_awaits, off_last_any, off_lone, off_may}
+use Rattle.run_alone.proofs.Handed.{arrivals_stay, made_arrivals, made_lone, made_last, made_unasked, off_awaits, off_last_any, off_lone, off_may}
 use Rattle.run_alone.proofs.handing.hand_in.Goals as goal
 
 pub returns-in-Some-clause-made : goal.returns-in-Some-clause-made
@@ -47,3 +47,12 @@ returns-clause-last c = ap (λ (r : RunView). last_of c.args.heap.now.config r) 
     ∙ off_last_any c.args.heap.now c.args.run.now c.at_once.new.run c.args.command c.requires.here c.at_once.ensures.here c.requires.may
     (subst (λ (o : Option Reply). NowAnswers c.args.heap.now c.args.run.now c.at_once.new.run c.args.command o) c.in_default.is c.at_once.ensures.answer)
     c.at_once.ensures.stays
+
+pub returns-in-Some-clause-arrivals : goal.returns-in-Some-clause-arrivals
+returns-in-Some-clause-arrivals c = made_arrivals c.args.heap.now c.args.run.now c.at_once.new.run c.args.command c.in-Some.reply
+    (subst (λ (o : Option Reply). NowAnswers c.args.heap.now c.args.run.now c.at_once.new.run c.args.command o) c.in-Some.is c.at_once.ensures.answer)
+
+pub returns-clause-arrivals : goal.returns-clause-arrivals
+returns-clause-arrivals c = ap (λ (r : RunView). r.token.view.own.arrivals) c.submit.ensures
+    ∙ arrivals_stay c.args.heap.now c.args.run.now c.at_once.new.run c.args.command
+    (subst (λ (o : Option Reply). NowAnswers c.args.heap.now c.args.run.now c.at_once.new.run c.args.command o) c.in_default.is c.at_once.ensures.answer)

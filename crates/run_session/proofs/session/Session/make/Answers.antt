@@ -28,3 +28,10 @@ pub returns-clause-outside : goal.returns-clause-outside
 returns-clause-outside c k =
     let o = c.in_ok-heap.ensures.outside k in
     (λ e. cc, λ f. let q = o.1 f in cc)
+
+pub returns-in_err-room-clause-outside : goal.returns-in_err-room-clause-outside
+returns-in_err-room-clause-outside c k =
+    let o = c.in_ok-heap.ensures.outside k in
+    let r = err_from_is_err_and c.from_residual-in_err-room.result c.from_residual-in_err-room.ensures.1 in
+    let same = r.2 in
+    (λ e. let q = sym r.1 ∙ e in cc, λ f. let q = o.1 f in cc)

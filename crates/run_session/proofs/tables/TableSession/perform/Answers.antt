@@ -7,7 +7,7 @@ use Rattle.run_session.proofs.Plain.{no_run, plainly, unregistered}
 use Rattle.run_session.proofs.tables.TableSession.perform.Goals as goal
 
 pub invariant_of-self : goal.invariant_of-self
-invariant_of-self g c =
+invariant_of-self c =
     let old : SessionView = c.self.inside.session in
     let new : SessionView = c.perform-reply.new.self in
     let p = c.perform-reply.ensures in
@@ -19,7 +19,7 @@ invariant_of-self g c =
     )
 
 pub returns-clause-performed : goal.returns-clause-performed
-returns-clause-performed g c =
+returns-clause-performed c =
     let old : SessionView = c.self.inside.session in
     let new : SessionView = c.perform-reply.new.self in
     let p = c.perform-reply.ensures in
