@@ -1,5 +1,5 @@
 -- A domain that somebody plays: what it has made, and what whoever plays it was told.
-use Rattle.std.specs.Prelude.{◌≡◌, ℕ, List, [], ◌∷◌, ◌++◌, length, Option, Some, None}
+use Rattle.std.specs.Prelude.{◌≡◌, ℕ, List, [], ◌∷◌, ◌++◌, length, slice_get, Option, Some, None}
 use Rattle.model_core.specs.declared.command.Command as model
 use Rattle.model_core.specs.declared.entry.Entry.{Entry}
 use Rattle.model_core.specs.declared.reply.Reply.{Reply}
@@ -7,7 +7,7 @@ use Rattle.model_core.specs.declared.state.Sizes.{Sizes}
 use Rattle.heap_rule.specs.Limits.{sizes_in}
 use Rattle.run_turns.specs.declared.supply.Supply.TheVariants.{Open}
 use Rattle.run_turns.specs.Runs.{IsHandedIn, RunView}
-use Rattle.run_seats.specs.Shared.Sharing.{IsRefusedBy, SharedView}
+use Rattle.run_seats.specs.Shared.Sharing.{IsRefusedBy, SharedView, taken_of}
 use Rattle.run_ledgers.specs.Ledgers.{IsLedger, Ledger}
 use Rattle.run_plays.specs.declared.player.Called.{Called}
 use Rattle.run_plays.specs.declared.player.Called.TheVariants.{Made, Waits, Refused}
@@ -69,7 +69,7 @@ abbrev pub Awaited : PlayerView → PlayerView → Option Reply → Type 0
 Awaited old new (Some r) = (c : model.Command) × ((old.awaits ≡ Some c) × Notes c r old new)
 Awaited old new None = Keeps old new × (new.awaits ≡ old.awaits)
 
--- the oldest finaliser that waited was told, or none waited and nothing has changed
+-- the oldest finaliser that waited was told and waits no more, or none waited and nothing has changed
 abbrev pub Takes : PlayerView → PlayerView → Option Reply → Type 0
-Takes old new (Some r) = (rest : List Reply) × ((old.shared.run.ran ≡ r ∷ rest) × ((new.shared.run.ran ≡ rest) × ((new.told ≡ old.told ++ r ∷ []) × ((new.made ≡ old.made) × (new.awaits ≡ old.awaits)))))
+Takes old new (Some r) = (Some r ≡ slice_get old.shared.run.ran 0) × (new ≡ record old { shared = taken_of old.shared; told = old.told ++ r ∷ [] })
 Takes old new None = (new ≡ old) × (old.shared.run.ran ≡ [])

@@ -6,7 +6,7 @@ use run_seats::shared::Refused;
 use run_turns::singly::Came;
 
 /// What whoever plays a domain does next.
-#[derive(Clone, Copy, Debug, PartialEq, Eq)]
+#[derive(Clone, Copy)]
 pub enum Move {
     /// Hands in a command, which is made at once where that can be.
     Call(Command),
@@ -23,7 +23,7 @@ pub enum Move {
 }
 
 /// What a move came to.
-#[derive(Clone, Copy, Debug, PartialEq, Eq)]
+#[derive(Clone, Copy)]
 pub enum Told {
     /// No move was made so far, or nothing was done.
     Nothing,

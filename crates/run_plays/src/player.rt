@@ -1,7 +1,7 @@
 //! A domain that somebody plays.
-ghost use Rattle.std.specs.Prelude.{◌≡◌, ◌≢◌, ◌++◌, ◌∷◌, [], ◌<◌, None, Some, IfOk, IfErr, true, vec_capacity, vec_len};
-ghost use Rattle.run_turns.specs.Runs.{CanBegin};
-ghost use Rattle.run_plays.specs.Playing.{Awaited, Calls, Keeps, Takes, number_of};
+ghost use Rattle.std.specs.Prelude.{◌≡◌, [], None, IfOk, IfErr};
+ghost use Rattle.run_plays.specs.Playing.{Awaited, Calls, Keeps, Takes};
+ghost use Rattle.run_plays.specs.Plays.{IsLogOf, IsNew, run_seat, seat_of};
 
 use crate::log::Log;
 use model_core::command::Command;
@@ -9,11 +9,10 @@ use model_core::reply::Reply;
 use run_seats::shared::{Refused, SharedRun};
 use run_turns::singly::Came;
 use std::alloc::{AllocError, Global};
-use run_turns::Supply;
 use std::marker::Model;
 
 /// What handing in a command came to.
-#[derive(Clone, Copy, Debug, PartialEq, Eq)]
+#[derive(Clone, Copy)]
 pub enum Called {
     /// It was made at once, with this reply.
     Made(Reply),
@@ -46,11 +45,7 @@ impl Model for Player {
 impl Player {
     /// Whoever plays this domain was told nothing so far, and the domain has made no entry.
     pub fn of(alloc: Global, run: SharedRun) -> Player
-        requires begins { CanBegin run.run.token [] }
-        requires open { run.run.supply ≡ Supply.Open }
-        requires none { run.run.commands ≡ [] }
-        requires first { run.run.next ≡ 0 }
-        requires untold { run.run.ran ≡ [] }
+        requires new { IsNew run }
         ensures { result ≡ record { shared = run; made = []; told = []; awaits = None } }
     {
         Player {
@@ -133,7 +128,7 @@ impl Player {
 
     // Takes all finalisers that wait.
     fn take_all(&mut self) -> Result<(), AllocError>
-        ensures keeps { (self.new.shared.heap ≡ self.old.shared.heap) × (number_of self.new ≡ number_of self.old) }
+        ensures seat { seat_of self.new ≡ seat_of self.old }
         ensures none { IfOk result (λ _. self.new.shared.run.ran ≡ []) }
     {
         for _ in 0..self.run.ran_len() {
@@ -145,7 +140,7 @@ impl Player {
     /// The domain with its share of the heap, and its log, once all finalisers that wait were taken: the domain's front has of it just
     /// what the log says.
     pub fn into_parts(self) -> Result<(SharedRun, Log), AllocError>
-        ensures run { IfOk result (λ p. (p.0.heap ≡ self.shared.heap) × (p.0.run.token.view.own.number ≡ number_of self)) }
+        ensures seat { IfOk result (λ p. run_seat p.0 ≡ seat_of self) }
         ensures log { IfOk result (λ p. IsLogOf p.1 p.0) }
     {
         let mut player = self;

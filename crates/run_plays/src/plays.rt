@@ -1,9 +1,9 @@
 //! Plays of all domains of a heap.
-ghost use Rattle.std.specs.Prelude.{◌≡◌, ◌↔◌, ◌<◌, ◌≤◌, ℕ, Err, IfOk, None, Some, [], length, map, slice_get, vec_len};
+ghost use Rattle.std.specs.Prelude.{◌≡◌, ◌↔◌, ◌<◌, ◌≤◌, ℕ, Err, IfOk, None, Some, [], length, map, slice_get, vec_capacity, vec_len};
 ghost use Rattle.heap_rule.specs.declared.config.StartFault.TheVariants as fault;
+ghost use Rattle.heap_rule.specs.declared.config.Config.{Config};
 ghost use Rattle.heap_rule.specs.Limits.{first_outside, sizes_in};
-ghost use Rattle.run_plays.specs.Plays.{AreNewFrom, AreSeatedFrom, IsOneHistory};
-ghost use Rattle.run_plays.specs.Playing.{number_of};
+ghost use Rattle.run_plays.specs.Plays.{AreLogsOf, AreNew, AreSeatsOf, IsOneHistory, run_seat, seat_of};
 
 use crate::log::Log;
 use crate::moves::{Client, Move, Told};
@@ -24,8 +24,7 @@ struct Chair<C: Client + Drop> {
 
 // Makes a move of a player.
 fn make(player: &mut Player, next: Move) -> Result<Told, AllocError>
-    ensures heap { player.new.shared.heap ≡ player.old.shared.heap }
-    ensures number { number_of player.new ≡ number_of player.old }
+    ensures seat { seat_of player.new ≡ seat_of player.old }
 {
     Ok(match next {
         Move::Call(command) => Told::Called(player.call(command)?),
@@ -42,8 +41,7 @@ fn make(player: &mut Player, next: Move) -> Result<Told, AllocError>
 
 // Makes the move that whoever plays chooses.
 fn play_one<C: Client + Drop>(chair: &mut Chair<C>) -> Result<(), AllocError>
-    ensures heap { chair.new.player.shared.heap ≡ chair.old.player.shared.heap }
-    ensures number { number_of chair.new.player ≡ number_of chair.old.player }
+    ensures seat { seat_of chair.new.player ≡ seat_of chair.old.player }
 {
     let next = chair.client.next(chair.told);
     chair.told = make(&mut chair.player, next)?;
@@ -52,10 +50,7 @@ fn play_one<C: Client + Drop>(chair: &mut Chair<C>) -> Result<(), AllocError>
 
 // One move of each, in order.
 fn play_round<C: Client + Drop>(chairs: &mut Vec<Chair<C>>) -> Result<(), AllocError>
-    ghost heap: { SharedHeap }
-    requires seated { AreSeatedFrom heap 0 (map (λ c. c.player) chairs.old.items) }
-    ensures seated { AreSeatedFrom heap 0 (map (λ c. c.player) chairs.new.items) }
-    ensures len { vec_len chairs.new ≡ vec_len chairs.old }
+    ensures seats { map (λ c. seat_of c.player) chairs.new.items ≡ map (λ c. seat_of c.player) chairs.old.items }
 {
     for i in 0..chairs.len() {
         play_one(&mut chairs[i])?;
@@ -94,11 +89,9 @@ fn seat_all<C: Client + Drop>(
     runs: Vec<SharedRun>,
     clients: Vec<C>,
 ) -> Result<Vec<Chair<C>>, AllocError>
-    ghost heap: { SharedHeap }
-    requires new { AreNewFrom heap 0 runs.items }
+    requires new { AreNew runs.items }
     requires one_each { vec_len clients ≡ vec_len runs }
-    ensures seated { IfOk result (λ v. AreSeatedFrom heap 0 (map (λ c. c.player) v.items)) }
-    ensures len { IfOk result (λ v. vec_len v ≡ vec_len runs) }
+    ensures seats { IfOk result (λ v. map (λ c. seat_of c.player) v.items ≡ map run_seat runs.items) }
 {
     let mut chairs = Vec::with_capacity(alloc, runs.len())?;
     for (run, client) in runs.into_iter().zip(clients) {
@@ -117,6 +110,10 @@ fn part_all<C: Client + Drop>(
     runs: &mut Vec<SharedRun>,
     logs: &mut Vec<Log>,
 ) -> Result<(), AllocError>
+    requires none { (runs.old.items ≡ []) × (logs.old.items ≡ []) }
+    requires room { (vec_len chairs ≤ vec_capacity runs.old) × (vec_len chairs ≤ vec_capacity logs.old) }
+    ensures seats { IfOk result (λ _. map run_seat runs.new.items ≡ map (λ c. seat_of c.player) chairs.items) }
+    ensures logs { IfOk result (λ _. AreLogsOf logs.new.items runs.new.items) }
 {
     for chair in chairs {
         let (run, log) = chair.player.into_parts()?;
@@ -131,10 +128,10 @@ fn end_play<C: Client + Drop>(
     alloc: Global,
     chairs: Vec<Chair<C>>,
 ) -> Result<Played, AllocError>
-    ghost heap: { SharedHeap }
-    requires seated { AreSeatedFrom heap 0 (map (λ c. c.player) chairs.items) }
+    ghost config: { Config }
+    requires seats { AreSeatsOf config (map (λ c. seat_of c.player) chairs.items) }
     requires some { 0 < vec_len chairs }
-    ensures sizes { IfOk result (λ p. p.sizes ≡ sizes_in heap.config) }
+    ensures sizes { IfOk result (λ p. p.sizes ≡ sizes_in config) }
     ensures count { IfOk result (λ p. length p.logs ≡ vec_len chairs) }
     ensures one { IfOk result (λ p. IsOneHistory p) }
 {

@@ -8,7 +8,8 @@ use Rattle.heap_rule.specs.Limits.{sizes_in}
 use Rattle.heap_rule.specs.Token.{SharedHeap}
 use Rattle.run_turns.specs.declared.supply.Supply.{Supply}
 use Rattle.run_turns.specs.declared.supply.Supply.TheVariants.{Closed, Listed, Open, Section}
-use Rattle.run_turns.specs.Kept.{finalised}
+use Rattle.model_core.specs.History.{commands}
+use Rattle.run_turns.specs.Kept.{answers, finalised}
 use Rattle.run_turns.specs.Runs.{AddsRan, GoesOn, HasLooked, IsHandedIn, RunView, Stretches, answer_of, first_reply, ran_with, said_with, wanting}
 use Rattle.run_turns.specs.Singly.Driving.{Answered, Awaits}
 use Rattle.run_turns.proofs.Adding.{finalised_adds, performed_adds, taken_first}
@@ -16,7 +17,8 @@ use Rattle.run_seats.specs.Shared.Sharing.{MayClose}
 use Rattle.run_ledgers.specs.Ledgers.{Adds, IsLedger, Ledger, Tells, TurnAdds, all_ran, made_behind, no_ledger, one_made}
 use Rattle.run_ledgers.specs.Ledgers.Tells.{TellsNothing, TellsRan, TellsReply}
 use Rattle.run_ledgers.proofs.Adding.{commands_add, finalisers_add, ledgers_follow, turns_add}
-use Rattle.run_plays.specs.Playing.{Awaited, IsAt, IsPlayed, Keeps, Notes, PlayerView}
+use Rattle.run_plays.specs.Playing.{IsAt, IsPlayed, PlayerView}
+use Rattle.run_plays.specs.Plays.{IsNew}
 
 -- the player with another run, and with one more command in its log
 abbrev pub with_run : PlayerView → RunView → PlayerView
@@ -193,3 +195,15 @@ taken p a is first = record {
     at_taken : (w : Option model.Command) → IsAt w p.shared.run → IsAt w (record p.shared.run { ran = drop 1 p.shared.run.ran })
     at_taken None at = at
     at_taken (Some c) at = at
+
+-- a domain that has made no entry has an empty log
+pub begins : (s : SharedView) → IsNew s → IsPlayed (record { shared = s; made = []; told = []; awaits = None })
+begins s is = record {
+  ledger = record {
+    commands_are = ap (λ (h : List Entry). commands h s.run.token.view.own.number) is.front;
+    answers_are = ap (λ (h : List Entry). answers (sizes_in s.heap.config) h s.run.token.view.own.number) is.front;
+    ran_are = ap (λ (h : List Entry). finalised (sizes_in s.heap.config) h s.run.token.view.own.number) is.front ∙ sym is.ran;
+  };
+  handed = open_handed s.run.supply is.more;
+  at = is.next ∙ sym (ap (λ (cs : List model.Command). length cs) is.commands);
+}
