@@ -44,7 +44,7 @@ static __attribute__((noinline)) void heap_finish(heap *h, uint32_t told, const 
   }
   if (told != CAMLHEAP_DONE) heap_failed(h, heap_refusal(told));
   camlheap_reply ran;
-  for (size_t i = 0; camlheap_ran(&h->domain, i, &ran) == CAMLHEAP_DONE; i++) heap_ran(h, ran.kind == CAMLHEAP_LAST, ran.number);
+  while (camlheap_take_ran(&h->domain, &ran) == CAMLHEAP_DONE) heap_ran(h, ran.kind == CAMLHEAP_LAST, ran.number);
 }
 
 static inline item heap_item(camlheap_reply reply) {

@@ -43,7 +43,7 @@ static inline void camlheap_move(camlheap_domain *to, camlheap_domain *from) {
 typedef struct { void *at; bool full; } camlheap_bed;
 
 /* How large a heap is: 1 domains (1 to 8), 2 words of each minor area (4096 to 65536 in steps of 4096), 3 pools of 4096
- * words (D * (minor_words / 4096 + 9) + 9 * D + 1 to 2048 for D domains), 4 and 5 room for finalisers and ephemerons of
+ * words (D * (minor_words / 4096 + 9) + 9 * D + 1 to 2048 for D domains), 4 and 5 room for finalisers (until taken) and ephemerons of
  * each domain (at most 200000 each). */
 typedef struct { uint32_t domains, minor_words, pools, finals, ephes; } camlheap_config;
 
@@ -57,7 +57,7 @@ typedef struct { uint8_t op, dst, a, b, tag; uint16_t n; uint32_t number; int64_
 typedef struct { uint32_t kind, domain, serial, number; int64_t value; uint64_t blocks, words; } camlheap_reply;
 
 /* What a domain counts: labels that it has given out, words of its minor area that its young blocks take, fields that it
- * remembers, ephemerons, registrations of both kinds that don't wait yet, finalisers that wait, and how often it has arrived
+ * remembers, ephemerons, registrations of both kinds that don't wait yet, finalisers that wait to run, and how often it has arrived
  * at the barrier. */
 typedef struct {
   uint32_t labels, young_words;
@@ -80,12 +80,12 @@ enum {
   CAMLHEAP_BUSY = 18,         /* the command before isn't made yet */
   CAMLHEAP_UNFIT = 19,        /* no such command, or a register or number outside its range */
   CAMLHEAP_NO_EPHEMERON = 20, /* no room for the ephemeron */
-  CAMLHEAP_NO_FINALISER = 21, /* no room for the finaliser */
+  CAMLHEAP_NO_FINALISER = 21, /* no room for the finaliser: registrations, and finalisers that ran and weren't taken, use it up */
   CAMLHEAP_NO_LABEL = 22,     /* the domain has made 4294967295 blocks */
   CAMLHEAP_NO_REGISTER = 23,  /* no such register */
   CAMLHEAP_MEMORY = 24,       /* memory ran out, and nothing was started */
   CAMLHEAP_TOO_FEW_HANDLES = 25,
-  CAMLHEAP_NO_MORE = 26,      /* no more finalisers have run; there are 64 beds; more blocks */
+  CAMLHEAP_NO_MORE = 26,      /* no finaliser waits to be taken; there are 64 beds; more blocks */
   CAMLHEAP_NO_BED = 27,       /* the handle holds none */
   CAMLHEAP_BED_FULL = 28,     /* a domain rests there */
   CAMLHEAP_HAS_DOMAIN = 29,   /* the handle that is to be filled holds one */
@@ -236,9 +236,13 @@ uint32_t camlheap_poll(camlheap_domain *domain, camlheap_reply *reply);
  * another was made at once since. */
 uint32_t camlheap_answer(camlheap_domain *domain, camlheap_reply *reply);
 
-/* The finaliser at this place, from 0, among those of the domain that have run since the last command was handed in: DONE
- * and its reply, or NO_MORE. A collection only has a finaliser wait. It runs on the domain that registered it, before the
- * next command or in turns between two; so ask behind each command, since the next one begins anew. */
+/* Takes the oldest of the finalisers of the domain that ran and weren't taken yet: DONE and its reply, FIN or LAST, or NO_MORE.
+ * A collection only has a finaliser wait. It runs on the domain that registered it, before the next command or in turns between
+ * two, and is kept until it is taken: no other call takes or loses one, whatever it does. Until then it takes the room that its
+ * registration took. It may be taken behind ENDED too, until the domain is freed. */
+uint32_t camlheap_take_ran(camlheap_domain *domain, camlheap_reply *reply);
+
+/* A look at the one at this place of those that wait to be taken, from the oldest at 0: DONE and its reply, or NO_MORE. */
 uint32_t camlheap_ran(camlheap_domain *domain, size_t place, camlheap_reply *reply);
 
 /* What a register holds: DONE with INT, BLOCK or NONE, or NO_REGISTER. */
@@ -259,7 +263,7 @@ uint32_t camlheap_stats(camlheap_domain *domain, camlheap_counts *counts);
  * nothing is said of it: a way that it tells may be gone, and it may miss one.
  *
  * It looks into at most `most` blocks. DONE; NO_DOMAIN, CLOSED or BUSY; AGAIN where the domain stands in a pause, one is
- * wanted, or a finaliser waits: take a turn, ask camlheap_ran, since loads begin that anew, and then this again; NO_MORE where
+ * wanted, or a finaliser waits: take a turn, and ask anew; NO_MORE where
  * there are more blocks than `most`; or MEMORY. *way and *fields are as they were else than with DONE. A block costs as many
  * loads as the way to it and itself have fields, and the time to look for each block that these refer to among those it came
  * to. */
@@ -581,8 +585,8 @@ static inline uint32_t camlheap_come_back(camlheap_domain *domain, camlheap_bed 
 }
 
 /* Closes a domain, turns it until all have ended, and frees it: ENDED, or why it can't be closed. Until then it takes part
- * in the pauses of the others. Finalisers that wait run in these turns, and nobody hears of them: to hear of them close, turn
- * until ENDED, camlheap_take_ran, and free. */
+ * in the pauses of the others. Finalisers that weren't taken go with it, and those that wait run in these turns: to hear of them
+ * close, turn until ENDED, camlheap_take_ran, and free. */
 static inline uint32_t camlheap_finish_beside(camlheap_domain *domain, camlheap_bed *bed) {
   camlheap_waits waits = camlheap_no_waits();
   uint32_t told = camlheap_close(domain);

@@ -87,6 +87,7 @@ static void waits(void) {
   while (camlheap_ran(&heap, 0, &reply) == CAMLHEAP_NO_MORE) CHECK(camlheap_turn(&heap) == CAMLHEAP_AGAIN);
   CHECK(reply.kind == CAMLHEAP_LAST && reply.number == 1);
   CHECK(why(5, &way, NULL, 0) == CAMLHEAP_DONE && way.kind == CAMLHEAP_NO_FIELD);
+  CHECK(camlheap_take_ran(&heap, &reply) == CAMLHEAP_DONE && reply.kind == CAMLHEAP_LAST && reply.number == 1);
   CHECK(camlheap_ran(&heap, 0, &reply) == CAMLHEAP_NO_MORE);
 }
 

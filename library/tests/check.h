@@ -33,10 +33,10 @@ static inline camlheap_reply shown(camlheap_domain *domain, uint8_t reg) {
   return reply;
 }
 
-/* How many finalisers have run since the last command was handed in, and the last of them. */
+/* How many finalisers ran that weren't taken yet, and the last of them. All are taken. */
 static inline size_t count_ran(camlheap_domain *domain, camlheap_reply *last) {
   size_t count = 0;
-  while (camlheap_ran(domain, count, last) == CAMLHEAP_DONE) count++;
+  while (camlheap_take_ran(domain, last) == CAMLHEAP_DONE) count++;
   return count;
 }
 

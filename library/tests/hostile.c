@@ -128,6 +128,7 @@ static void empty(camlheap_domain *domain) {
   CHECK(camlheap_submit(domain, &POLL) == CAMLHEAP_NO_DOMAIN && camlheap_turn(domain) == CAMLHEAP_NO_DOMAIN);
   CHECK(camlheap_run(domain, 9, &reply) == CAMLHEAP_NO_DOMAIN && camlheap_call(domain, &POLL, 9, &reply) == CAMLHEAP_NO_DOMAIN);
   CHECK(camlheap_answer(domain, &reply) == CAMLHEAP_NO_DOMAIN && camlheap_ran(domain, 0, &reply) == CAMLHEAP_NO_DOMAIN);
+  CHECK(camlheap_take_ran(domain, &reply) == CAMLHEAP_NO_DOMAIN);
   CHECK(camlheap_show(domain, 0, &reply) == CAMLHEAP_NO_DOMAIN && camlheap_show(domain, 16, &reply) == CAMLHEAP_NO_DOMAIN);
   CHECK(camlheap_stats(domain, &counts) == CAMLHEAP_NO_DOMAIN && counts.labels == 77);
   CHECK(camlheap_close(domain) == CAMLHEAP_NO_DOMAIN && camlheap_finish(domain) == CAMLHEAP_NO_DOMAIN);

@@ -58,7 +58,7 @@ static void finalisers(void) {
   go((camlheap_command){.op = CAMLHEAP_FULL_MAJOR});
   go((camlheap_command){.op = CAMLHEAP_POLL});
   CHECK(count_ran(&heap, &ran) == 1 && ran.kind == CAMLHEAP_LAST && ran.number == 8);
-  CHECK(camlheap_ran(&heap, 1, &ran) == CAMLHEAP_NO_MORE);
+  CHECK(camlheap_ran(&heap, 0, &ran) == CAMLHEAP_NO_MORE && camlheap_take_ran(&heap, &ran) == CAMLHEAP_NO_MORE);
 }
 
 static void collections(void) {

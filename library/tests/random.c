@@ -11,6 +11,11 @@ static camlheap_domain domains[DOMAINS];
 static camlheap_bed beds[BEDS];
 static uint64_t state = 1;
 
+/* Finalisers have numbers of their own, each is told once at most. */
+enum { NUMBERS = 1 << 22 };
+static uint32_t last_number;
+static bool is_told[NUMBERS];
+
 /* The next random word, by xorshift. */
 static uint64_t word(void) {
   state ^= state << 13, state ^= state >> 7, state ^= state << 17;
@@ -33,7 +38,8 @@ static camlheap_command command(void) {
   camlheap_command it = {.op = (uint8_t)below(24), .dst = (uint8_t)below(16), .a = (uint8_t)below(16), .b = (uint8_t)below(16)};
   it.tag = it.op == CAMLHEAP_RAW ? (uint8_t)(251 + word() % 5) : (uint8_t)below(246);
   it.n = (uint16_t)below(it.op == CAMLHEAP_EPHE ? 9 : word() % 64 ? 20 : 1024);
-  it.number = (uint32_t)word();
+  it.number = last_number = (last_number + 1) % NUMBERS;
+  is_told[it.number] = false;
   it.value = word() % 8 ? (int64_t)(word() % 1000) : (int64_t)word();
   return it;
 }
@@ -185,6 +191,20 @@ static void rests(void) {
   }
 }
 
+/* Takes what finalisers have told. */
+static void takes(void) {
+  camlheap_domain *it = domain();
+  camlheap_reply first = UNTOUCHED, reply = UNTOUCHED;
+  bool was_full = it->full;
+  uint32_t looked = camlheap_ran(it, 0, &first), told = camlheap_take_ran(it, &reply);
+  read(it, was_full, told, BIT(DONE) | BIT(NO_MORE) | BIT(NO_DOMAIN), &reply);
+  CHECK(looked == told);
+  if (told != CAMLHEAP_DONE) return;
+  CHECK((reply.kind == CAMLHEAP_FIN || reply.kind == CAMLHEAP_LAST) && reply.kind == first.kind && reply.number == first.number);
+  CHECK(reply.number < NUMBERS && !is_told[reply.number]);
+  is_told[reply.number] = true;
+}
+
 /* Starts a heap, mostly one that there may be, into handles that may be full. */
 static void starts(void) {
   uint32_t first = (uint32_t)(word() % DOMAINS), count = (uint32_t)(word() % (DOMAINS - first + 1));
@@ -236,14 +256,15 @@ static void empties(void) {
 }
 
 int main(int count, char **words) {
-  long calls = count > 1 ? atol(words[1]) : 3000000;
+  long calls = count > 1 ? atol(words[1]) : 1000000;
   if (count > 2) state = strtoull(words[2], NULL, 0) | 1;
   for (long at = 0; at < calls; at++) {
     uint64_t kind = word() % 1000;
     if (kind < 350) drives();
     else if (kind < 750) calls_directly();
     else if (kind < 850) maps();
-    else if (kind < 930) tells();
+    else if (kind < 900) tells();
+    else if (kind < 930) takes();
     else if (kind < 997) rests();
     else empties();
     if (at % 64 == 0) starts();

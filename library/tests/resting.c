@@ -105,7 +105,7 @@ static void finalised(void) {
   /* It is answered in the middle of the pause, which ends in later turns of both. */
   for (int i = 0; i < 8; i++) camlheap_turn(&seats[1].domain), camlheap_attend(&seats[1].bed);
   come_back(&seats[0]);
-  CHECK(camlheap_ran(&seats[0].domain, 0, &ran) == CAMLHEAP_DONE && ran.kind == CAMLHEAP_LAST && ran.number == 9);
+  CHECK(camlheap_take_ran(&seats[0].domain, &ran) == CAMLHEAP_DONE && ran.kind == CAMLHEAP_LAST && ran.number == 9);
   rest(&seats[0]), rest(&seats[1]);
   end_all(2);
 }

@@ -40,7 +40,7 @@ class Judge:
         if ran.returncode not in (LEGAL, NONE_FOUND, GAVE_UP):
             raise NoJudge(f"history_check ends with status {ran.returncode}: {ran.stderr.strip()}")
         said, _, rest = ran.stdout.partition("\n")
-        _, found, near = rest.partition("begins as this one, and is legal:\n")
+        _, found, near = rest.partition("in this output, which is legal:\n")
         return Judged(ran.returncode, said, near if found and ran.returncode != LEGAL else "")
 
     def is_script(self, script, domains):

@@ -181,7 +181,7 @@ pub extern "C" fn camlheap_resume(
     ensures resumes { result ≡ 0 → Resumes domain.new bed.old bed.new }
     ensures same { result ≢ 0 → HoldsSame domain.old domain.new }
     ensures same_bed { result ≢ 0 → bed.old.full ≡ true → IsSameBed bed.old.value bed.new.value }
-    ensures told { result ≢ 0 → result < 27 → result ≡ 1 }
+    ensures told { result ≢ 0 → result ≢ 1 → (result ≡ 27) ⊎ ((result ≡ 29) ⊎ (result ≡ 30)) }
 {
     if let Some(run) = domain.take(alloc) {
         *domain = CamlheapDomain::of(run);

@@ -30,33 +30,25 @@ use Rattle.model_core.proofs.Histories.HistoryLemmas.{state_after-push}
 use Rattle.model_core.proofs.Histories.ShapeAfterLemmas.{shaped-history}
 use Rattle.heap_rule.specs.Limits.{sizes_in}
 use Rattle.heap_rule.specs.Rule.{state_of}
-use Rattle.model_core.specs.Counts.Counts.{blocks_of}
-use Rattle.run_turns.specs.Handed.{PerformedOn}
+use Rattle.model_core.specs.Counts.Counts.{blocks_of, labels_given}
+use Rattle.run_turns.specs.Handed.{Finalised, PerformedOn}
 use Rattle.run_turns.specs.Kept.{finalised}
 use Rattle.run_turns.specs.Tries.{registrations_of}
+use Rattle.run_turns.proofs.Adding.{finalised_tells, performed_tells}
 use Rattle.run_turns.proofs.Handed.{performed_commands}
-use Rattle.run_seats.specs.Seating.{GoesAlong, SeatView}
+use Rattle.run_seats.specs.Seating.{GoesAlong, IsSameSeat, PerformsOn, SeatView, ran_since}
 use Rattle.example_handles.specs.declared.resource.Resource.{Resource}
 use Rattle.example_handles.specs.declared.resource.Resource.TheVariants.{Open, ClosedByFinaliser}
-use Rattle.example_handles.specs.Handling.{HandleMade, HandlesView, HoldsLatest, IsHandles, IsLater, IsUnused, Makes, OpenWereHeld, Opens, Performs, Settles, latest, no_handles, numbered, parted, ran_by, registered_by, state_at}
+use Rattle.example_handles.specs.Handling.{Attends, HandleMade, HandlesView, HoldsLatest, IsHandles, IsLater, IsUnused, Makes, OpenWereHeld, Opens, Performs, Settles, latest, no_handles, numbered, parted, ran_by, registered_by, state_at}
 use Rattle.example_handles.specs.Resources.{Settled, is_last, names}
 use Rattle.example_handles.proofs.Held.{was_held}
-use Rattle.example_handles.proofs.Histories.{HoldsSame, legal_parts, names_on, none_named, prefix_on, ran_by_then, ran_on, ran_performed, registered_on, registered_performed, registers_none, registers_on, same_on, same_part}
+use Rattle.example_handles.proofs.Histories.{HoldsSame, legal_parts, names_on, none_named, prefix_on, ran_by_then, registered_on, registered_performed, registers_none, registers_on, same_on, same_part}
 use Rattle.example_handles.proofs.Settling.{closed_named, named_closed, pushed, settled_both, settled_since}
 
-or_right : (a b : Bool) → b ≡ true → (a || b) ≡ true
-or_right true b is = refl
-or_right false b is = is
-
-or_known : (a b c : Bool) → (b ≡ true → a ≡ true) → (a || c) ≡ (a || (b || c))
-or_known true b c on = refl
-or_known false false c on = refl
-or_known false true c on = let no = on refl in cc
-
--- a seat that has gone on, whose resources are settled by what it tells
-module _ (old : HandlesView) (got : SeatView) (xs : List Resource) (kept : IsHandles old) (same : IsLater old.seat got) (grows : IsPrefix old.seat.front got.front)
-    (both : (k : ℕ) → names (finalised (sizes_in old.seat.heap.config) got.front old.seat.number) k ≡ (names (ran_by old) k || names got.ran k))
-    (count : length xs ≡ length old.resources) (s : Settled old.resources got.ran xs) where
+-- a seat that has gone on, whose resources are settled by what ran since and was taken
+module _ (old : HandlesView) (got : SeatView) (ran : List Reply) (xs : List Resource) (kept : IsHandles old) (same : IsLater old.seat got) (grows : IsPrefix old.seat.front got.front)
+    (both : (k : ℕ) → names (finalised (sizes_in old.seat.heap.config) got.front old.seat.number) k ≡ (names (ran_by old) k || names ran k))
+    (count : length xs ≡ length old.resources) (s : Settled old.resources ran xs) where
   abbrev new : HandlesView
   new = parted old got xs
 
@@ -67,7 +59,7 @@ module _ (old : HandlesView) (got : SeatView) (xs : List Resource) (kept : IsHan
   stays_named k is = ap (λ (rs : List Reply). names rs k) ran_then ∙ names_on (sizes_in old.seat.heap.config) old.seat.number old.seat.front got.front k grows is
 
   pub all_settled : Settled old.resources (ran_by new) xs
-  all_settled = settled_since old.resources xs (ran_by old) got.ran (ran_by new) kept.closed (λ k. ap (λ (rs : List Reply). names rs k) ran_then ∙ both k) s
+  all_settled = settled_since old.resources xs (ran_by old) ran (ran_by new) kept.closed (λ k. ap (λ (rs : List Reply). names rs k) ran_then ∙ both k) s
 
   pub settles : Settles old new
   settles = record { grows = grows; count = count; settled = all_settled }
@@ -78,49 +70,92 @@ module _ (old : HandlesView) (got : SeatView) (xs : List Resource) (kept : IsHan
   pub named_then : (k : ℕ) → slice_get xs k ≡ Some ClosedByFinaliser → names (ran_by new) k ≡ true
   named_then k = closed_named old.resources xs (ran_by new) k all_settled (λ is. stays_named k (kept.ran k is))
 
-  pub told_then : (k : ℕ) → names got.ran k ≡ true → names (ran_by new) k ≡ true
-  told_then k is = ap (λ (rs : List Reply). names rs k) ran_then ∙ (both k ∙ or_right (names (ran_by old) k) (names got.ran k) is)
-
   pub limits_then : IsWithinLimits (sizes_in got.heap.config)
   limits_then = subst (λ (v : SeatView). IsWithinLimits (sizes_in v.heap.config)) (sym same) kept.limits
 
   pub registered_then : registered_by new ≡ all_registered old.seat.number (opening (sizes_in old.seat.heap.config)) got.front
   registered_then = ap (λ (v : SeatView). all_registered v.number (opening (sizes_in v.heap.config)) v.front) same
 
-  pub still : all_registered old.seat.number (opening (sizes_in old.seat.heap.config)) got.front ≡ registered_by old → old.seat.finals ≤ got.finals → IsHandles new
-  still none finals = record {
+  pub still : all_registered old.seat.number (opening (sizes_in old.seat.heap.config)) got.front ≡ registered_by old → old.seat.finals ≤ got.finals → got.ran ≡ [] → IsHandles new
+  still none finals taken = record {
     limits = limits_then;
     registered = registered_then ∙ (none ∙ (kept.registered ∙ ap numbered (sym count)));
     few = let f = kept.few in omega (arith, f, count);
     room = let f = kept.room in omega (arith, f, finals, count);
     closed = closed_then;
     ran = named_then;
-    told = told_then;
+    taken = taken;
   }
 
 -- a seat that made no command
-module _ (old : HandlesView) (got : SeatView) (xs : List Resource) (kept : IsHandles old) (same : IsLater old.seat got) (along : GoesAlong old.seat got)
-    (count : length xs ≡ length old.resources) (s : Settled old.resources got.ran xs) where
+module _ (old : HandlesView) (got : SeatView) (xs : List Resource) (kept : IsHandles old) (a : Attends old.seat got old.resources xs) (count : length xs ≡ length old.resources) where
   grows_along : IsPrefix old.seat.front got.front
-  grows_along = record { rest = along.finalised.rest; appends = along.finalised.appends }
+  grows_along = record { rest = a.along.finalised.rest; appends = a.along.finalised.appends }
 
-  both_along : (k : ℕ) → names (finalised (sizes_in old.seat.heap.config) got.front old.seat.number) k ≡ (names (ran_by old) k || names got.ran k)
+  both_along : (k : ℕ) → names (finalised (sizes_in old.seat.heap.config) got.front old.seat.number) k ≡ (names (ran_by old) k || names a.along.ran k)
   both_along k =
-      ap (λ (rs : List Reply). names rs k) (ran_on (sizes_in old.seat.heap.config) old.seat.number old.seat.front got.front along.more along.finalised)
-      ∙ (list_any-append (is_last k) (ran_by old) along.more
-      ∙ (or_known (names (ran_by old) k) (names old.seat.ran k) (names along.more k) (kept.told k)
-      ∙ ap (λ (b : Bool). names (ran_by old) k || b) (sym (ap (λ (rs : List Reply). names rs k) along.ran ∙ list_any-append (is_last k) old.seat.ran along.more))))
+      ap (λ (rs : List Reply). names rs k) (finalised_tells (sizes_in old.seat.heap.config) old.seat.number old.seat.front got.front a.along.ran a.along.finalised)
+      ∙ list_any-append (is_last k) (ran_by old) a.along.ran
 
   pub settles_along : Settles old (parted old got xs)
-  settles_along = settles old got xs kept same grows_along both_along count s
+  settles_along = settles old got a.along.ran xs kept a.same grows_along both_along count a.settled
 
   pub still_along : IsHandles (parted old got xs)
-  still_along = still old got xs kept same grows_along both_along count s
-      (registered_on (sizes_in old.seat.heap.config) old.seat.number old.seat.front got.front along.more along.finalised)
-      (let more = along.finals in omega (arith, more))
+  still_along = still old got a.along.ran xs kept a.same grows_along both_along count a.settled
+      (registered_on (sizes_in old.seat.heap.config) old.seat.number old.seat.front got.front a.along.ran a.along.finalised)
+      (let more = a.along.finals in omega (arith, more)) a.along.taken
+
+-- a seat that made no command has given out no label
+pub along_later : (a b : SeatView) → b ≡ record a { front = b.front; room = b.room; finals = b.finals; stats = b.stats; ran = b.ran } → IsLater a b
+along_later a b same = same ∙ (λ i. record a { front = b.front; labels = ap (λ (v : SeatView). v.labels) (sym same) i; room = b.room; finals = b.finals; stats = b.stats; ran = b.ran })
+
+-- a seat of which what waited was taken
+taken_later : (a b : SeatView) → b ≡ record a { ran = []; finals = b.finals } → IsLater a b
+taken_later a b same = same ∙ (λ i. record a { front = ap (λ (v : SeatView). v.front) (sym same) i; labels = ap (λ (v : SeatView). v.labels) (sym same) i; room = ap (λ (v : SeatView). v.room) (sym same) i; finals = b.finals; stats = ap (λ (v : SeatView). v.stats) (sym same) i; ran = ap (λ (v : SeatView). v.ran) (sym same) i })
+
+-- one call after the other
+pub later_both : (a b c : SeatView) → IsLater a b → IsLater b c → IsLater a c
+later_both a b c ab bc = bc ∙ ap (λ (v : SeatView). record v { front = c.front; labels = c.labels; room = c.room; finals = c.finals; stats = c.stats; ran = c.ran }) ab
+
+-- a seat that attended, or rested, and then took what waits
+none_before : (before now more : List Reply) → before ≡ [] → now ≡ before ++ more → now ≡ more
+none_before before now more none is = is ∙ ap (λ (rs : List Reply). rs ++ more) none
+
+pub attended : (old mid new : SeatView) (were are : List Resource) → old.ran ≡ [] → mid ≡ record old { front = mid.front; room = mid.room; finals = mid.finals; stats = mid.stats; ran = mid.ran } → GoesAlong old mid
+    → new ≡ record mid { ran = []; finals = new.finals } → new.finals ≡ mid.finals + length mid.ran → Settled were mid.ran are → Attends old new were are
+attended old mid new were are none same along taken finals settled =
+    let told : mid.ran ≡ along.more = none_before old.ran mid.ran along.more none along.ran in
+    let front : mid.front ≡ new.front = sym (ap (λ (v : SeatView). v.front) taken) in
+    record {
+      same = later_both old mid new (along_later old mid same) (taken_later mid new taken);
+      along = record {
+        ran = along.more;
+        taken = ap (λ (v : SeatView). v.ran) taken;
+        finalised = subst (λ (h : List Entry). Finalised (sizes_in old.heap.config) old.number old.front h along.more) front along.finalised;
+        finals = finals ∙ (λ i. along.finals i + length (told i));
+        commands_are = subst (λ (h : List Entry). commands h old.number ≡ commands old.front old.number) front along.commands_are;
+      };
+      settled = subst (λ (rs : List Reply). Settled were rs are) told settled;
+    }
+
+-- or made a command, and then took what waits
+pub performed_closing : (old mid new : SeatView) (were are : List Resource) (c : model.Command) (r : Reply) → old.ran ≡ [] → IsSameSeat old mid → PerformsOn old mid c r → mid.labels ≡ old.labels + labels_given c r → old.finals ≤ mid.finals + registrations_of c
+    → new ≡ record mid { ran = []; finals = new.finals } → new.finals ≡ mid.finals + length mid.ran → Settled were mid.ran are → Performs old new were are c r
+performed_closing old mid new were are c r none same performs labels room taken finals settled =
+    let told : mid.ran ≡ ran_since old mid = none_before old.ran mid.ran (ran_since old mid) none performs.waits in
+    let front : mid.front ≡ new.front = sym (ap (λ (v : SeatView). v.front) taken) in
+    record {
+      same = later_both old mid new same (taken_later mid new taken);
+      labels = ap (λ (v : SeatView). v.labels) taken ∙ labels;
+      ran = ran_since old mid;
+      taken = ap (λ (v : SeatView). v.ran) taken;
+      finals = let count = ap (λ (rs : List Reply). length rs) told in omega (arith, finals, room, count);
+      performed = subst (λ (h : List Entry). PerformedOn (sizes_in old.heap.config) old.number old.front h c (ran_since old mid) r) front performs.performed;
+      settled = subst (λ (rs : List Reply). Settled were rs are) told settled;
+    }
 
 -- after a command that a seat performed
-module _ (old : HandlesView) (got : SeatView) (c : model.Command) (r : Reply) (kept : IsHandles old) (p : Performs old.seat got c r) where
+module _ (old : HandlesView) (got : SeatView) (xs : List Resource) (c : model.Command) (r : Reply) (kept : IsHandles old) (p : Performs old.seat got old.resources xs c r) where
   abbrev z : Sizes
   z = sizes_in old.seat.heap.config
 
@@ -137,11 +172,11 @@ module _ (old : HandlesView) (got : SeatView) (c : model.Command) (r : Reply) (k
     appends = p.performed.appends ∙ (ap (λ (h : List Entry). h ++ Command d c p.performed.full ∷ []) p.performed.finalised.appends ∙ append_assoc old.seat.front p.performed.finalised.rest (Command d c p.performed.full ∷ []));
   }
 
-  pub both : (k : ℕ) → names (finalised z got.front d) k ≡ (names (ran_by old) k || names got.ran k)
-  both k = ap (λ (rs : List Reply). names rs k) (ran_performed z d old.seat.front got.front c got.ran r p.performed) ∙ list_any-append (is_last k) (ran_by old) got.ran
+  pub both : (k : ℕ) → names (finalised z got.front d) k ≡ (names (ran_by old) k || names p.ran k)
+  both k = ap (λ (rs : List Reply). names rs k) (performed_tells z d old.seat.front got.front c p.ran r p.performed) ∙ list_any-append (is_last k) (ran_by old) p.ran
 
   pub registers : (all : List Pending) → registered_by old ++ registered d before (Command d c p.performed.full) ≡ all → all_registered d (opening z) got.front ≡ all
-  registers all is = registered_performed z d old.seat.front got.front c got.ran r p.performed ∙ is
+  registers all is = registered_performed z d old.seat.front got.front c p.ran r p.performed ∙ is
 
   parts : LegalFrom (opening z) p.performed.before × LegalFrom before (Command d c p.performed.full ∷ [])
   parts = legal_parts (opening z) p.performed.before (Command d c p.performed.full ∷ []) (subst (Legal z) p.performed.appends p.performed.legal)
@@ -156,27 +191,27 @@ module _ (old : HandlesView) (got : SeatView) (c : model.Command) (r : Reply) (k
   left = ap (state_after (opening z)) p.performed.appends ∙ state_after-push (opening z) p.performed.before (Command d c p.performed.full)
 
   pub made_are : commands got.front d ≡ commands old.seat.front d ++ c ∷ []
-  made_are = performed_commands z d old.seat.front got.front c got.ran r p.performed
+  made_are = performed_commands z d old.seat.front got.front c p.ran r p.performed
 
 -- a command that registers no finaliser
-module _ (old : HandlesView) (got : SeatView) (xs : List Resource) (c : model.Command) (r : Reply) (kept : IsHandles old) (p : Performs old.seat got c r) (quiet : registrations_of c ≡ 0)
-    (count : length xs ≡ length old.resources) (s : Settled old.resources got.ran xs) where
+module _ (old : HandlesView) (got : SeatView) (xs : List Resource) (c : model.Command) (r : Reply) (kept : IsHandles old) (p : Performs old.seat got old.resources xs c r) (quiet : registrations_of c ≡ 0)
+    (count : length xs ≡ length old.resources) where
   pub settles_performed : Settles old (parted old got xs)
-  settles_performed = settles old got xs kept p.same (grows old got c r kept p) (both old got c r kept p) count s
+  settles_performed = settles old got p.ran xs kept p.same (grows old got xs c r kept p) (both old got xs c r kept p) count p.settled
 
   pub still_performed : IsHandles (parted old got xs)
-  still_performed = still old got xs kept p.same (grows old got c r kept p) (both old got c r kept p) count s
-      (registers old got c r kept p (registered_by old) ((λ i. registered_by old ++ registers_none (d old got c r kept p) (before old got c r kept p) c p.performed.full quiet i) ∙ append-nil (registered_by old)))
-      (let finals = p.finals in omega (arith, finals, quiet))
+  still_performed = still old got p.ran xs kept p.same (grows old got xs c r kept p) (both old got xs c r kept p) count p.settled
+      (registers old got xs c r kept p (registered_by old) ((λ i. registered_by old ++ registers_none (d old got xs c r kept p) (before old got xs c r kept p) c p.performed.full quiet i) ∙ append-nil (registered_by old)))
+      (let finals = p.finals in omega (arith, finals, quiet)) p.taken
 
 -- an allocation that isn't refused
 not_full : (d : ℕ) (s : State) (c : model.Command) (full : Bool) (r : Reply) → reply s (Command d c full) ≡ Replied r → r ≢ Full → full ≡ false
 not_full d s c true r is room = absurd (room (let same : Replied Full ≡ Replied r = is in cc))
 not_full d s c false r is room = refl
 
-pub made : (old : HandlesView) (got : SeatView) (xs : List Resource) (dst : ℕ) (r : Reply) → IsHandles old → Performs old.seat got (Alloc dst 0 1) r → dst < 16 → r ≢ Full → Settles old (parted old got xs) → HandleMade old (parted old got xs) dst
+pub made : (old : HandlesView) (got : SeatView) (xs : List Resource) (dst : ℕ) (r : Reply) → IsHandles old → Performs old.seat got old.resources xs (Alloc dst 0 1) r → dst < 16 → r ≢ Full → Settles old (parted old got xs) → HandleMade old (parted old got xs) dst
 made old got xs dst r kept p few room settled = record {
-  made_are = made_are old got (Alloc dst 0 1) r kept p;
+  made_are = made_are old got xs (Alloc dst 0 1) r kept p;
   labels = let given = p.labels in let one = ap blocks_of block in omega (arith, given, one);
   handle = subst (λ (v : SeatView). HoldsLatest (parted old v xs) dst) (sym p.same) handle;
   settles = settled;
@@ -186,7 +221,7 @@ made old got xs dst r kept p few room settled = record {
     number = old.seat.number
 
     s : State
-    s = before old got (Alloc dst 0 1) r kept p
+    s = before old got xs (Alloc dst 0 1) r kept p
 
     after : State
     after = state_of old.seat.heap.config got.front
@@ -195,10 +230,10 @@ made old got xs dst r kept p few room settled = record {
     is_made = not_full number s (Alloc dst 0 1) p.performed.full r p.performed.replies room
 
     there : after ≡ next s (Command number (Alloc dst 0 1) false)
-    there = left old got (Alloc dst 0 1) r kept p ∙ ap (λ (b : Bool). next s (Command number (Alloc dst 0 1) b)) is_made
+    there = left old got xs (Alloc dst 0 1) r kept p ∙ ap (λ (b : Bool). next s (Command number (Alloc dst 0 1) b)) is_made
 
     inside : number < length s.domains
-    inside = inside_running s.domains number (allowed old got (Alloc dst 0 1) r kept p).running
+    inside = inside_running s.domains number (allowed old got xs (Alloc dst 0 1) r kept p).running
 
     inside_registers : dst < length (domain_at s number).registers
     inside_registers = let sixteen = (shaped-history (sizes_in old.seat.heap.config) p.performed.before kept.limits).register_count number inside in omega (arith, sixteen, few)
@@ -229,8 +264,8 @@ last_registers : (d : ℕ) (s : State) (dst n : ℕ) (full : Bool) (l : Label) �
 last_registers d s dst n true l allowed is = absurd (let no = allowed.full_fits.allocates in cc)
 last_registers d s dst n false l allowed is = (λ i. cond (eq-eqb d d refl i) (option_to_list (option_map (λ l. Last n) (is i))) [])
 
-module _ (old : HandlesView) (got : SeatView) (others : List Resource) (dst : ℕ) (r : Reply) (kept : IsHandles old) (p : Performs old.seat got (FinaliseLast dst (length old.resources)) r)
-    (below : length old.resources < old.most) (held : HoldsLatest old dst) (count : length others ≡ length old.resources) (s : Settled old.resources got.ran others) where
+module _ (old : HandlesView) (got : SeatView) (others : List Resource) (dst : ℕ) (r : Reply) (kept : IsHandles old) (p : Performs old.seat got old.resources others (FinaliseLast dst (length old.resources)) r)
+    (below : length old.resources < old.most) (held : HoldsLatest old dst) (count : length others ≡ length old.resources) where
   abbrev c : model.Command
   c = FinaliseLast dst (length old.resources)
 
@@ -241,7 +276,7 @@ module _ (old : HandlesView) (got : SeatView) (others : List Resource) (dst : �
   number = old.seat.number
 
   abbrev made_in : State
-  made_in = before old got c r kept p
+  made_in = before old got others c r kept p
 
   abbrev after : State
   after = state_of old.seat.heap.config got.front
@@ -253,26 +288,26 @@ module _ (old : HandlesView) (got : SeatView) (others : List Resource) (dst : �
   others_view = parted old got others
 
   settled : Settled old.resources (ran_by others_view) others
-  settled = all_settled old got others kept p.same (grows old got c r kept p) (both old got c r kept p) count s
+  settled = all_settled old got p.ran others kept p.same (grows old got others c r kept p) (both old got others c r kept p) count p.settled
 
   -- by then the register still holds the handle
   by_then : HoldsSame number (state_at old) made_in
   by_then = subst (λ (h : List Entry). HoldsSame number (state_at old) (state_after (opening sizes) h)) (sym p.performed.finalised.appends)
-      (registers_on sizes number (length old.resources) old.seat.front p.performed.finalised.rest (subst (Legal sizes) p.performed.finalised.appends (legal_before old got c r kept p)) kept.registered p.performed.finalised.runs)
+      (registers_on sizes number (length old.resources) old.seat.front p.performed.finalised.rest (subst (Legal sizes) p.performed.finalised.appends (legal_before old got others c r kept p)) kept.registered p.performed.finalised.runs)
 
   there : label_in made_in number dst ≡ Some (latest old)
   there = ap (λ (rs : List Value). label_of (get_or rs dst Nothing)) by_then.registers ∙ ap label_of held
 
   in_the_end : HoldsSame number (state_at old) after
-  in_the_end = same_on number (state_at old) made_in after by_then (subst (λ (t : State). HoldsSame number made_in t) (sym (left old got c r kept p)) (last_keeps number made_in dst (length old.resources) p.performed.full))
+  in_the_end = same_on number (state_at old) made_in after by_then (subst (λ (t : State). HoldsSame number made_in t) (sym (left old got others c r kept p)) (last_keeps number made_in dst (length old.resources) p.performed.full))
 
   one_more : length (others ++ Open ∷ []) ≡ length old.resources + 1
   one_more = length-append others (Open ∷ []) ∙ ap (λ (k : ℕ). k + 1) count
 
   pub opened : Opens (c ∷ []) 0 old opened_view dst
   opened = record {
-    grows = grows old got c r kept p;
-    made_are = made_are old got c r kept p;
+    grows = grows old got others c r kept p;
+    made_are = made_are old got others c r kept p;
     labels = p.labels;
     handle = subst (λ (v : SeatView). HoldsLatest (parted old v (others ++ Open ∷ [])) dst) (sym p.same)
         (ap (λ (rs : List Value). get_or rs dst Nothing) in_the_end.registers ∙ (held ∙ ap (λ (n : ℕ). Block (record { domain = number; serial = n })) (sym in_the_end.serial)));
@@ -284,42 +319,34 @@ module _ (old : HandlesView) (got : SeatView) (others : List Resource) (dst : �
   -- the new resource isn't named, since its finaliser wasn't registered before
   unnamed : (k : ℕ) → length old.resources ≤ k → names (ran_by others_view) k ≡ true → ⊥
   unnamed k far is =
-      none_named sizes number p.performed.before (length old.resources) k (legal_before old got c r kept p)
-      (registered_on sizes number old.seat.front p.performed.before got.ran p.performed.finalised ∙ kept.registered) far
-      (ap (λ (rs : List Reply). names rs k) (sym (ran_then old got others kept p.same (grows old got c r kept p) (both old got c r kept p) count s ∙ ran_by_then sizes number old.seat.front got.front c got.ran r p.performed)) ∙ is)
+      none_named sizes number p.performed.before (length old.resources) k (legal_before old got others c r kept p)
+      (registered_on sizes number old.seat.front p.performed.before p.ran p.performed.finalised ∙ kept.registered) far
+      (ap (λ (rs : List Reply). names rs k) (sym (ran_then old got p.ran others kept p.same (grows old got others c r kept p) (both old got others c r kept p) count p.settled ∙ ran_by_then sizes number old.seat.front got.front c p.ran r p.performed)) ∙ is)
 
   pub open_still : IsHandles opened_view
   open_still = record {
-    limits = limits_then old got others kept p.same (grows old got c r kept p) (both old got c r kept p) count s;
-    registered = registered_then old got others kept p.same (grows old got c r kept p) (both old got c r kept p) count s
-        ∙ registers old got c r kept p (numbered (length (others ++ Open ∷ [])))
-        ((λ i. kept.registered i ++ last_registers number made_in dst (length old.resources) p.performed.full (latest old) (allowed old got c r kept p) there i)
+    limits = limits_then old got p.ran others kept p.same (grows old got others c r kept p) (both old got others c r kept p) count p.settled;
+    registered = registered_then old got p.ran others kept p.same (grows old got others c r kept p) (both old got others c r kept p) count p.settled
+        ∙ registers old got others c r kept p (numbered (length (others ++ Open ∷ [])))
+        ((λ i. kept.registered i ++ last_registers number made_in dst (length old.resources) p.performed.full (latest old) (allowed old got others c r kept p) there i)
         ∙ ap numbered (sym (one_more ∙ add-one (length old.resources))));
     few = let more = one_more in omega (arith, more, below);
     room = let f = kept.room in let finals = p.finals in let more = one_more in omega (arith, f, finals, more);
     closed = λ k is held_open. ⊎_elim
-        (λ old_one. closed_then old got others kept p.same (grows old got c r kept p) (both old got c r kept p) count s k is old_one)
+        (λ old_one. closed_then old got p.ran others kept p.same (grows old got others c r kept p) (both old got others c r kept p) count p.settled k is old_one)
         (λ new_one. unnamed k (let same = new_one.0 in omega (arith, same, count)) is)
         (pushed others Open Open k held_open);
     ran = λ k is. ⊎_elim
-        (λ old_one. named_then old got others kept p.same (grows old got c r kept p) (both old got c r kept p) count s k old_one)
+        (λ old_one. named_then old got p.ran others kept p.same (grows old got others c r kept p) (both old got others c r kept p) count p.settled k old_one)
         (λ new_one. absurd (let same = new_one.1 in cc))
         (pushed others Open ClosedByFinaliser k is);
-    told = told_then old got others kept p.same (grows old got c r kept p) (both old got c r kept p) count s;
+    taken = p.taken;
   }
 
 -- what has run stays so
 later_named : (mid new : HandlesView) → IsLater mid.seat new.seat → IsPrefix mid.seat.front new.seat.front → (k : ℕ) → names (ran_by mid) k ≡ true → names (ran_by new) k ≡ true
 later_named mid new same grows k is =
     ap (λ (v : SeatView). names (finalised (sizes_in v.heap.config) v.front v.number) k) same ∙ names_on (sizes_in mid.seat.heap.config) mid.seat.number mid.seat.front new.seat.front k grows is
-
--- a seat that made no command has given out no label
-pub along_later : (a b : SeatView) → b ≡ record a { front = b.front; room = b.room; finals = b.finals; stats = b.stats; ran = b.ran } → IsLater a b
-along_later a b same = same ∙ (λ i. record a { front = b.front; labels = ap (λ (v : SeatView). v.labels) (sym same) i; room = b.room; finals = b.finals; stats = b.stats; ran = b.ran })
-
--- one call after the other
-pub later_both : (a b c : SeatView) → IsLater a b → IsLater b c → IsLater a c
-later_both a b c ab bc = bc ∙ ap (λ (v : SeatView). record v { front = c.front; labels = c.labels; room = c.room; finals = c.finals; stats = c.stats; ran = c.ran }) ab
 
 pub settles_both : (old mid new : HandlesView) → IsLater mid.seat new.seat → Settles old mid → Settles mid new → Settles old new
 settles_both old mid new same a b = record {
@@ -383,7 +410,7 @@ none_kept most s unused = record {
   room = let room = unused.room in omega (arith, room);
   closed = λ k is held. let no : None ≡ Some Open = held in cc;
   ran = λ k is. let no : None ≡ Some ClosedByFinaliser = is in cc;
-  told = λ k is. let no : false ≡ true = ap (λ (rs : List Reply). names rs k) (sym unused.ran) ∙ is in cc;
+  taken = unused.ran;
 }
 
 -- what a vector holds once its slice is another of its length
@@ -394,18 +421,12 @@ written n xs ys same = subst (λ (k : ℕ). take k (xs ++ ys) ≡ xs) same (take
 abbrev pub stored : ℕ → List Resource → List Resource → List Resource
 stored n were are = take n (are ++ drop (length are) were)
 
-pub record Changed (n : ℕ) (were are : List Resource) (ran : List Reply) : Type 0 where
+pub record Changed (n : ℕ) (were are : List Resource) : Type 0 where
   pub items : stored n were are ≡ are
   pub count : length are ≡ length were
-  pub settled : Settled were ran are
 
-pub changed : {lent : List Resource} (n : ℕ) (were are : List Resource) (ran : List Reply) → lent ≡ were → Settled lent ran are → length lent ≡ n → length are ≡ length lent → Changed n were are ran
-changed n were are ran is settles held many = record {
+pub changed : {lent : List Resource} (n : ℕ) (were are : List Resource) → lent ≡ were → length lent ≡ n → length are ≡ length lent → Changed n were are
+changed n were are is held many = record {
   items = written n are (drop (length are) were) (many ∙ held);
   count = many ∙ ap length is;
-  settled = subst (λ (ys : List Resource). Settled ys ran are) is settles;
 }
-
--- the same where what the seat tells has another name
-pub changed_told : {lent : List Resource} {told : List Reply} (n : ℕ) (were are : List Resource) (ran : List Reply) → lent ≡ were → told ≡ ran → Settled lent told are → length lent ≡ n → length are ≡ length lent → Changed n were are ran
-changed_told {lent} {told} n were are ran is same settles held many = changed n were are ran is (subst (λ (rs : List Reply). Settled lent rs are) same settles) held many

@@ -10,13 +10,12 @@ use Rattle.model_core.specs.declared.state.Sizes.{Sizes}
 use Rattle.model_core.specs.History.{commands}
 use Rattle.heap_rule.specs.Limits.{first_outside, sizes_in}
 use Rattle.heap_rule.proofs.Sizes.{within}
-use Rattle.run_turns.specs.Handed.{PerformedOn}
 use Rattle.run_turns.proofs.Handed.{performed_commands}
 use Rattle.run_turns.proofs.OfSingly.Finalising.{finalised_on}
-use Rattle.run_seats.specs.Seating.{AllSeatsOf, GoesAlong, IsSeatOf, SeatView, SeatsView, fresh_seats}
+use Rattle.run_seats.specs.Seating.{AllSeatsOf, IsSeatOf, SeatView, SeatsView, fresh_seats}
 use Rattle.run_seats.specs.Stopping.{Stops, StopsEach}
 use Rattle.example_handles.specs.declared.resource.Resource.{Resource}
-use Rattle.example_handles.specs.Handling.{AllHandlesOf, Did, EachDid, HandlesView, IsHandles, IsLater, IsUnused, Makes, Parts, PartsEach, Settles, StopLeaves, LeavesEach, parted, ran_by}
+use Rattle.example_handles.specs.Handling.{AllHandlesOf, Did, EachDid, GoesBy, HandlesView, IsHandles, IsLater, IsUnused, Made, Makes, Parts, PartsEach, Settles, StopLeaves, LeavesEach, parted, ran_by}
 use Rattle.example_handles.specs.Resources.{names}
 use Rattle.example_handles.proofs.Calls.{later_both, makes_both, open_held, performed_from, settles_both}
 use Rattle.example_handles.proofs.Histories.{prefix_on}
@@ -33,40 +32,42 @@ unused_seats s most from zero fits same = tt
 unused_seats s most from (suc n) fits same = (record { limits = within s.heap.config fits; front = refl; ran = refl; room = omega (arith, same) }, unused_seats s most (from + 1) n fits same)
 
 -- a seat that was taken up, without a command
-along_makes : (old mid : HandlesView) → GoesAlong old.seat mid.seat → Settles old mid → Makes [] old mid
+along_makes : (old mid : HandlesView) → GoesBy old.seat mid.seat → Settles old mid → Makes [] old mid
 along_makes old mid along settles = record { made_are = along.commands_are ∙ sym (append-nil (commands old.seat.front old.seat.number)); settles = settles }
 
 -- and then made one
-pub did_one : (old mid new : HandlesView) (c : model.Command) (r : Reply) → IsLater old.seat mid.seat → mid.most ≡ old.most → GoesAlong old.seat mid.seat → Settles old mid → IsLater mid.seat new.seat → new.most ≡ mid.most
-    → PerformedOn (sizes_in mid.seat.heap.config) mid.seat.number mid.seat.front new.seat.front c new.seat.ran r → Settles mid new → IsHandles new → Did c old new
-did_one old mid new c r first most along settled then still performed settles kept =
+pub did_one : (old mid new : HandlesView) (c : model.Command) (r : Reply) → IsLater old.seat mid.seat → mid.most ≡ old.most → GoesBy old.seat mid.seat → Settles old mid → IsLater mid.seat new.seat → new.most ≡ mid.most
+    → Made mid new c r → Settles mid new → IsHandles new → Did c old new
+did_one old mid new c r first most along settled then still made settles kept =
     let z : Sizes = sizes_in old.seat.heap.config in
     let d : ℕ = old.seat.number in
-    let p = performed_from old mid new c new.seat.ran r first performed in
+    let p = performed_from old mid new c made.ran r first made.performed in
     record {
       seat = later_both old.seat mid.seat new.seat first then;
       most = still ∙ most;
       settles = settles_both old mid new then settled settles;
       kept = kept;
-      ran = along.more ++ new.seat.ran;
       reply = r;
-      performed = record {
-        before = p.before;
-        finalised = finalised_on z d old.seat.front mid.seat.front p.before along.more new.seat.ran along.finalised p.finalised;
-        full = p.full;
-        appends = p.appends;
-        legal = p.legal;
-        replies = p.replies;
+      made = record {
+        ran = along.ran ++ made.ran;
+        performed = record {
+          before = p.before;
+          finalised = finalised_on z d old.seat.front mid.seat.front p.before along.ran made.ran along.finalised p.finalised;
+          full = p.full;
+          appends = p.appends;
+          legal = p.legal;
+          replies = p.replies;
+        };
       };
     }
 
 did_makes : (c : model.Command) (old new : HandlesView) → Did c old new → Makes (c ∷ []) old new
 did_makes c old new did = record {
-  made_are = performed_commands (sizes_in old.seat.heap.config) old.seat.number old.seat.front new.seat.front c did.ran did.reply did.performed;
+  made_are = performed_commands (sizes_in old.seat.heap.config) old.seat.number old.seat.front new.seat.front c did.made.ran did.reply did.made.performed;
   settles = did.settles;
 }
 
-pub parts_one : (old new : HandlesView) → IsLater old.seat new.seat → new.most ≡ old.most → GoesAlong old.seat new.seat → Settles old new → IsHandles new → Parts old new.seat new.resources
+pub parts_one : (old new : HandlesView) → IsLater old.seat new.seat → new.most ≡ old.most → GoesBy old.seat new.seat → Settles old new → IsHandles new → Parts old new.seat new.resources
 parts_one old new later most along settles kept = record { seat = later; makes = subst (Makes [] old) same (along_makes old new along settles); kept = subst IsHandles same kept }
   where
     same : new ≡ parted old new.seat new.resources
@@ -112,7 +113,7 @@ stop_one z history old first then s rs a b parts stops = record {
   collects = makes_both old then (parted then s rs) (FullMajor ∷ Poll ∷ []) [] both parts.seat (makes_both old first then (FullMajor ∷ []) (Poll ∷ []) a.seat b.seat (did_makes FullMajor old first a) (did_makes Poll first then b)) parts.makes;
   kept = parts.kept;
   held = λ k is.
-      let w = open_held old first then a.seat b.seat a.ran b.ran a.reply b.reply a.performed (b.performed) b.kept k
+      let w = open_held old first then a.seat b.seat a.made.ran b.made.ran a.reply b.reply a.made.performed b.made.performed b.kept k
       (was_open (slice_get then.resources k) (names (ran_by (parted then s rs)) k) (sym (parts.makes.settles.settled k) ∙ is)) in
       record { front = w.front; full = w.full; since = w.since; collected = prefix_on (w.front ++ Command old.seat.number FullMajor w.full ∷ []) then.seat.front s.front w.collected parts.makes.settles.grows; held = w.held };
   stops = stops;

@@ -17,7 +17,7 @@ use Rattle.model_core.specs.declared.state.Sizes.{Sizes}
 use Rattle.model_core.specs.declared.state.State.{State}
 use Rattle.model_core.specs.Domains.{domain_at, opening, with_domain}
 use Rattle.model_core.specs.Entries.{after_run, next, queued_final, queued_last, reply, run_reply}
-use Rattle.model_core.specs.History.{IsPrefix, Legal, LegalFrom, is_entry_of, replies_from, reply_list, state_after}
+use Rattle.model_core.specs.History.{IsPrefix, Legal, LegalFrom, is_entry_of, reply_list, state_after}
 use Rattle.model_core.specs.Registrations.{all_ran, all_registered, ran as run_by, registered, registered_by}
 use Rattle.model_core.proofs.Collections.RegistrationLemmas.{registrations_law}
 use Rattle.model_core.specs.Fronts.{KeepsDomain}
@@ -40,38 +40,10 @@ legal_parts s (e ∷ h) k legal = let rest = legal_parts (next s e) h k legal.1 
 pub prefix_on : (a b c : List Entry) → IsPrefix a b → IsPrefix b c → IsPrefix a c
 prefix_on a b c x y = record { rest = x.rest ++ y.rest; appends = y.appends ∙ (ap (λ (h : List Entry). h ++ y.rest) x.appends ∙ append_assoc a x.rest y.rest) }
 
--- among others' entries and runs the replies are those of the runs
-one_run : (d : ℕ) (s : State) (e : Entry) → IsTrue (not (is_entry_of d e) || is_run_of d e) → cond (is_run_of d e) (reply_list (reply s e)) [] ≡ cond (is_entry_of d e) (reply_list (reply s e)) []
-one_run d s (Command k c full) runs = by (k == d) runs
-  where
-    by : (b : Bool) → IsTrue (not b || false) → [] ≡ cond b (reply_list (reply s (Command k c full))) []
-    by true is = cc
-    by false is = refl
-one_run d s (End k) runs = by (k == d) runs
-  where
-    by : (b : Bool) → IsTrue (not b || false) → [] ≡ cond b (reply_list (reply s (End k))) []
-    by true is = cc
-    by false is = refl
-one_run d s e runs = refl
-
-runs_replies : (d : ℕ) (s : State) (h : List Entry) → OnlyRuns d h → replies_to (is_run_of d) s h ≡ replies_from s h d
-runs_replies d s [] runs = refl
-runs_replies d s (e ∷ h) runs =
-    let parts = and_parts (not (is_entry_of d e) || is_run_of d e) _ runs in
-    (λ i. one_run d s e parts.0 i ++ runs_replies d (next s e) h parts.1 i)
-
-pub ran_on : (z : Sizes) (d : ℕ) (old new : List Entry) (ran : List Reply) → Finalised z d old new ran → finalised z new d ≡ finalised z old d ++ ran
-ran_on z d old new ran f =
-    ap (λ (h : List Entry). finalised z h d) f.appends ∙ (replies_to-append (is_run_of d) (opening z) old f.rest
-    ∙ ap (λ (rs : List Reply). finalised z old d ++ rs) (runs_replies d (state_after (opening z) old) f.rest f.runs ∙ f.ran_are))
-
 -- what has run by the end of a command is what ran before it
 pub ran_by_then : (z : Sizes) (d : ℕ) (old new : List Entry) (c : model.Command) (ran : List Reply) (r : Reply) → (p : PerformedOn z d old new c ran r) → finalised z new d ≡ finalised z p.before d
 ran_by_then z d old new c ran r p =
     ap (λ (h : List Entry). finalised z h d) p.appends ∙ (replies_to-append (is_run_of d) (opening z) p.before (Command d c p.full ∷ []) ∙ append-nil (finalised z p.before d))
-
-pub ran_performed : (z : Sizes) (d : ℕ) (old new : List Entry) (c : model.Command) (ran : List Reply) (r : Reply) → PerformedOn z d old new c ran r → finalised z new d ≡ finalised z old d ++ ran
-ran_performed z d old new c ran r p = ran_by_then z d old new c ran r p ∙ ran_on z d old p.before ran p.finalised
 
 -- what has run stays so
 or_left : (a b : Bool) → a ≡ true → (a || b) ≡ true

@@ -1,10 +1,11 @@
 -- How resources are closed, one after the other.
 use Rattle.std.proofs.Common.{◌≡◌, ◌≢◌, ◌∙◌, ℕ, zero, suc, Bool, true, false, List, [], ◌∷◌, ◌++◌, length, refl, sym, ap, true≢false, inl, inr, ⊎_elim}
 use Rattle.std.specs.Prelude.{◌⊎◌, ◌||◌, Option, Some, None, option_map, slice_get}
+use Rattle.std.proofs.lemmas.List.Folds.{list_any-append}
 use Rattle.model_core.specs.declared.reply.Reply.{Reply}
 use Rattle.example_handles.specs.declared.resource.Resource.{Resource}
 use Rattle.example_handles.specs.declared.resource.Resource.TheVariants.{Open, ClosedByOwner, ClosedByFinaliser}
-use Rattle.example_handles.specs.Resources.{Settled, closed_if, is_open, names}
+use Rattle.example_handles.specs.Resources.{Settled, closed_if, is_last, is_open, names}
 
 -- what isn't asked to close, or isn't open, stays
 pub stays : (o : Option Resource) (b : Bool) (closed : Resource) → (b ≡ true → is_open o ≡ false) → o ≡ option_map (closed_if b closed) o
@@ -24,6 +25,12 @@ twice true true (Some ClosedByOwner) = refl
 twice false true (Some ClosedByOwner) = refl
 twice true true (Some ClosedByFinaliser) = refl
 twice false true (Some ClosedByFinaliser) = refl
+
+-- one reply after the others
+pub settled_more : (xs ys zs : List Resource) (ran more : List Reply) → Settled xs ran ys → Settled ys more zs → Settled xs (ran ++ more) zs
+settled_more xs ys zs ran more first then k =
+    then k ∙ (ap (option_map (closed_if (names more k) ClosedByFinaliser)) (first k)
+    ∙ (twice (names more k) (names ran k) (slice_get xs k) ∙ ap (λ (b : Bool). option_map (closed_if b ClosedByFinaliser) (slice_get xs k)) (sym (list_any-append (is_last k) ran more))))
 
 pub settled_none : (xs : List Resource) → Settled xs [] xs
 settled_none xs k = stays (slice_get xs k) false ClosedByFinaliser (λ e. cc)

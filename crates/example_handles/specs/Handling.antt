@@ -24,7 +24,7 @@ use Rattle.heap_rule.specs.declared.config.StartFault.TheVariants as fault
 use Rattle.heap_rule.specs.Limits.{first_outside, sizes_in}
 use Rattle.heap_rule.specs.Rule.{state_of}
 use Rattle.model_core.specs.Counts.Counts.{ephemerons_of, labels_given, labels_of}
-use Rattle.run_turns.specs.Handed.{PerformedOn}
+use Rattle.run_turns.specs.Handed.{Finalised, PerformedOn}
 use Rattle.run_turns.specs.Kept.{finalised}
 use Rattle.run_turns.specs.Tries.{FitsHeap, registrations_of}
 use Rattle.run_seats.specs.Seating.{IsSeatOf, SeatView, SeatsView}
@@ -72,7 +72,7 @@ abbrev pub numbered : ℕ → List Pending
 numbered zero = []
 numbered (suc n) = numbered n ++ LastPending n ∷ []
 
--- each resource has one finaliser; one whose finaliser has run is closed; and the finaliser has run of one that it closed
+-- each resource has one finaliser; one whose finaliser has run is closed; the finaliser has run of one that it closed; and no reply of a finaliser waits to be taken
 pub record IsHandles (h : HandlesView) : Type 0 where
   pub limits : IsWithinLimits (sizes_in h.seat.heap.config)
   pub registered : registered_by h ≡ numbered (length h.resources)
@@ -80,7 +80,7 @@ pub record IsHandles (h : HandlesView) : Type 0 where
   pub room : h.most ≤ h.seat.finals + length h.resources
   pub closed : (k : ℕ) → names (ran_by h) k ≡ true → slice_get h.resources k ≢ Some Open
   pub ran : (k : ℕ) → slice_get h.resources k ≡ Some ClosedByFinaliser → names (ran_by h) k ≡ true
-  pub told : (k : ℕ) → names h.seat.ran k ≡ true → names (ran_by h) k ≡ true
+  pub taken : h.seat.ran ≡ []
 
 -- a seat on which no command was made, of a heap within its limits, with room for so many finalisers
 pub record IsUnused (most : ℕ) (s : SeatView) : Type 0 where
@@ -103,6 +103,19 @@ pub record IsSpare (c : Command) : Type 0 where
 -- since then the history has grown by entries of others, by runs of the domain's finalisers with these replies, and by this command of the domain with its reply
 abbrev pub PerformedBy : HandlesView → HandlesView → Command → List Reply → Reply → Type 0
 PerformedBy old new c ran reply = PerformedOn (sizes_in old.seat.heap.config) old.seat.number old.seat.front new.seat.front c ran reply
+
+-- this command was made, with this reply, behind finalisers that ran
+pub record Made (old new : HandlesView) (c : Command) (reply : Reply) : Type 0 where
+  pub ran : List Reply
+  pub performed : PerformedBy old new c ran reply
+
+-- a seat has made no command since: what the domain has seen has grown by entries of others and by runs of its finalisers, whose replies were taken, so there is room for so many more
+pub record GoesBy (old new : SeatView) : Type 0 where
+  pub ran : List Reply
+  pub taken : new.ran ≡ []
+  pub finalised : Finalised (sizes_in old.heap.config) old.number old.front new.front ran
+  pub finals : new.finals ≡ old.finals + length ran
+  pub commands_are : commands new.front old.number ≡ commands old.front old.number
 
 -- the history has grown, and each open resource whose finaliser has run by now is closed by it; the others are as they were
 pub record Settles (old new : HandlesView) : Type 0 where
@@ -136,7 +149,7 @@ pub record Opens (made : List Command) (given : ℕ) (old new : HandlesView) (ds
 
 -- the heap had no room for a handle
 pub record NoRoom (old new : HandlesView) (dst : ℕ) : Type 0 where
-  pub full : PerformedBy old new (Alloc dst 0 1) new.seat.ran Full
+  pub full : Made old new (Alloc dst 0 1) Full
   pub settles : Settles old new
 
 -- a handle was made
@@ -191,9 +204,8 @@ pub record Did (c : Command) (old new : HandlesView) : Type 0 where
   pub most : new.most ≡ old.most
   pub settles : Settles old new
   pub kept : IsHandles new
-  pub ran : List Reply
   pub reply : Reply
-  pub performed : PerformedBy old new c ran reply
+  pub made : Made old new c reply
 
 -- each has
 abbrev pub EachDid : Command → List HandlesView → List HandlesView → Type 0
@@ -231,9 +243,18 @@ PartsEach [] [] [] = Unit {0}
 PartsEach (h ∷ hs) (s ∷ ss) (rs ∷ rss) = Parts h s rs × PartsEach hs ss rss
 PartsEach _ _ _ = ⊥
 
--- what a seat performed
-pub record Performs (old new : SeatView) (c : Command) (r : Reply) : Type 0 where
+-- a seat performed a command, and the resources whose finalisers ran before it were closed
+pub record Performs (old new : SeatView) (were are : List Resource) (c : Command) (r : Reply) : Type 0 where
   pub same : IsLater old new
   pub labels : new.labels ≡ old.labels + labels_given c r
-  pub finals : old.finals + length new.ran ≤ new.finals + registrations_of c
-  pub performed : PerformedOn (sizes_in old.heap.config) old.number old.front new.front c new.ran r
+  pub ran : List Reply
+  pub taken : new.ran ≡ []
+  pub finals : old.finals + length ran ≤ new.finals + registrations_of c
+  pub performed : PerformedOn (sizes_in old.heap.config) old.number old.front new.front c ran r
+  pub settled : Settled were ran are
+
+-- a seat made no command, and the resources whose finalisers ran were closed
+pub record Attends (old new : SeatView) (were are : List Resource) : Type 0 where
+  pub same : IsLater old new
+  pub along : GoesBy old new
+  pub settled : Settled were along.ran are

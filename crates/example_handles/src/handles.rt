@@ -1,14 +1,14 @@
 //! Handles, and their calls.
 ghost use Rattle.std.specs.Prelude.{◌≡◌, ◌<◌, ◌∷◌, [], length, slice_get};
 ghost use Rattle.run_turns.specs.Tries.{registrations_of};
-ghost use Rattle.example_handles.specs.Handling.{CloseLeaves, Collects, HandleAnswers, HoldsLatest, IsHandles, IsLater, IsSpare, OpenAnswers, OpenWereHeld, Opens, PerformedBy, Performs, Settles};
-ghost use Rattle.example_handles.specs.Resources.{Settled, is_open};
+ghost use Rattle.example_handles.specs.Handling.{Attends, CloseLeaves, Collects, HandleAnswers, HoldsLatest, GoesBy, IsHandles, IsLater, IsSpare, Made, OpenAnswers, OpenWereHeld, Opens, Performs, Settles};
+ghost use Rattle.example_handles.specs.Resources.{is_open};
 ghost use Rattle.model_core.specs.declared.command.Command.TheVariants as command;
 ghost use Rattle.model_core.specs.History.{Legal};
 ghost use Rattle.heap_rule.specs.Limits.{sizes_in};
-ghost use Rattle.run_seats.specs.Seating.{GoesAlong, IsSeatOf, MayPerform};
+ghost use Rattle.run_seats.specs.Seating.{IsSeatOf, MayPerform};
 
-use crate::resource::{Resource, close, close_named};
+use crate::resource::{Resource, close, close_waiting};
 use crate::resting::RestingHandles;
 use model_core::command::Command;
 use model_core::reply::Reply;
@@ -86,7 +86,7 @@ impl Handles {
         requires spare { IsSpare command }
         ensures seat { IsLater self.old.seat self.new.seat }
         ensures most { self.new.most ≡ self.old.most }
-        ensures performed { PerformedBy self.old self.new command self.new.seat.ran result }
+        ensures performed { Made self.old self.new command result }
         ensures settles { Settles self.old self.new }
     {
         self.make_command(rt, seats, command)
@@ -113,7 +113,7 @@ impl Handles {
         requires here { IsSeatOf seats.now self.old.seat }
         ensures seat { IsLater self.old.seat self.new.seat }
         ensures most { self.new.most ≡ self.old.most }
-        ensures along { GoesAlong self.old.seat self.new.seat }
+        ensures along { GoesBy self.old.seat self.new.seat }
         ensures settles { Settles self.old self.new }
     {
         attend_closing(rt, seats, &mut self.seat, &mut self.resources);
@@ -151,7 +151,7 @@ impl Handles {
         requires may { MayPerform self.old.seat command }
         requires quiet { registrations_of command ≡ 0 }
         ensures most { self.new.most ≡ self.old.most }
-        ensures performs { Performs self.old.seat self.new.seat command result }
+        ensures performs { Performs self.old.seat self.new.seat self.old.resources self.new.resources command result }
         ensures settles { Settles self.old self.new }
     {
         perform_closing(rt, seats, &mut self.seat, &mut self.resources, command)
@@ -204,22 +204,21 @@ fn perform_closing<R: Wait>(
     command: Command,
 ) -> Reply
     requires here { IsSeatOf seats.now seat.old }
+    requires taken { seat.old.ran ≡ [] }
     requires may { MayPerform seat.old command }
-    ensures performs { Performs seat.old seat.new command result }
-    ensures settled { Settled resources.old seat.new.ran resources.new }
+    ensures performs { Performs seat.old seat.new resources.old resources.new command result }
 {
     let reply = seat.perform(rt, seats, command);
-    close_named(resources, seat.ran());
+    close_waiting(seat, resources);
     reply
 }
 
 // Takes part in a pause, and closes the resources whose finalisers ran.
 fn attend_closing<R: Wait>(rt: &R, seats: &Seats, seat: &mut Seat, resources: &mut [Resource])
     requires here { IsSeatOf seats.now seat.old }
-    ensures same { IsLater seat.old seat.new }
-    ensures along { GoesAlong seat.old seat.new }
-    ensures settled { Settled resources.old seat.new.ran resources.new }
+    requires taken { seat.old.ran ≡ [] }
+    ensures attends { Attends seat.old seat.new resources.old resources.new }
 {
     seat.attend(rt, seats);
-    close_named(resources, seat.ran());
+    close_waiting(seat, resources);
 }

@@ -1,8 +1,9 @@
 //! Resources, and how they are closed.
-ghost use Rattle.std.specs.Prelude.{◌≡◌, slice_get};
+ghost use Rattle.std.specs.Prelude.{◌≡◌, ◌+◌, ◌∷◌, [], length, slice_get};
 ghost use Rattle.example_handles.specs.Resources.{Closes, Settled, is_open};
 
 use model_core::reply::Reply;
+use run_seats::Seat;
 
 /// What a resource is. It stands for a file descriptor or the like.
 #[derive(Clone, Copy, Debug, PartialEq, Eq)]
@@ -30,13 +31,25 @@ pub(crate) fn close(resources: &mut [Resource], number: u32, closed: Resource) -
     }
 }
 
-// Closes each open resource whose finaliser is among those that ran.
-pub(crate) fn close_named(resources: &mut [Resource], ran: &[Reply])
-    ensures settled { Settled resources.old ran.now resources.new }
+// Closes the resource whose finaliser made this reply, where it is open.
+fn close_named(resources: &mut [Resource], ran: Reply)
+    ensures settled { Settled resources.old (ran ∷ []) resources.new }
 {
-    'replies: for reply in ran {
-        if let Reply::Last { number } = *reply {
-            close(resources, number, Resource::ClosedByFinaliser);
-        }
+    if let Reply::Last { number } = ran {
+        close(resources, number, Resource::ClosedByFinaliser);
+    }
+}
+
+// Takes the replies of all finalisers that ran and wait, and closes their resources.
+pub(crate) fn close_waiting(seat: &mut Seat, resources: &mut [Resource])
+    ensures settled { Settled resources.old seat.old.ran resources.new }
+    ensures taken { seat.new ≡ record seat.old { ran = []; finals = seat.new.finals } }
+    ensures finals { seat.new.finals ≡ seat.old.finals + length seat.old.ran }
+{
+    'waiting: for _place in 0..seat.ran_len() {
+        let Some(ran) = seat.take_ran() else {
+            unreachable!()
+        };
+        close_named(resources, ran);
     }
 }

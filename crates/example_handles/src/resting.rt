@@ -1,11 +1,11 @@
 //! Handles whose seat rests.
 ghost use Rattle.std.specs.Prelude.{◌≡◌, IfOk, map};
 ghost use Rattle.std.specs.List.{AllByRecursion};
-ghost use Rattle.example_handles.specs.Handling.{IsLater, IsUnused, Settles, no_handles};
-ghost use Rattle.run_seats.specs.Seating.{GoesAlong, IsSeatOf};
+ghost use Rattle.example_handles.specs.Handling.{GoesBy, IsLater, IsUnused, Settles, no_handles};
+ghost use Rattle.run_seats.specs.Seating.{IsSeatOf};
 
 use crate::handles::Handles;
-use crate::resource::{Resource, close_named};
+use crate::resource::{Resource, close_waiting};
 use run_seats::{Resting, Seats};
 use std::alloc::{AllocError, Global};
 use std::marker::Model;
@@ -36,7 +36,7 @@ impl RestingHandles {
         requires here { IsSeatOf seats.now self.seat }
         ensures seat { IsLater self.seat result.seat }
         ensures most { result.most ≡ self.most }
-        ensures along { GoesAlong self.seat result.seat }
+        ensures along { GoesBy self.seat result.seat }
         ensures settles { Settles self result }
     {
         let RestingHandles {
@@ -44,8 +44,8 @@ impl RestingHandles {
             mut resources,
             most,
         } = self;
-        let seat = seat.resume(rt, seats);
-        close_named(&mut resources, seat.ran());
+        let mut seat = seat.resume(rt, seats);
+        close_waiting(&mut seat, &mut resources);
         Handles {
             seat,
             resources,

@@ -6,7 +6,7 @@ ghost use Rattle.run_seats.specs.Seating.{IsSeatOf};
 
 use heap_rule::{Config, StartFault};
 use model_core::command::Command;
-use run_seats::{Resting, Seats};
+use run_seats::{Resting, Seat, Seats};
 use std::alloc::Global;
 use std::process::ExitCode;
 use std::sync::Wait;
@@ -19,6 +19,18 @@ const BLOCK: Command = Command::Alloc {
     fields: 2,
 };
 
+// Takes the replies of the finalisers that ran, and answers how many.
+fn take_all(seats: &Seats, seat: &mut Seat) -> usize
+    requires here { IsSeatOf seats.now seat.old }
+    ensures here { IsSeatOf seats.now seat.new }
+{
+    let count = seat.ran_len();
+    'waiting: for _ in 0..count {
+        seat.take_ran();
+    }
+    count
+}
+
 // Makes the commands on a seat that it takes, and answers how many finalisers ran before them.
 fn works(rt: &impl Wait, seats: &Seats, resting: Resting, commands: &[Command]) -> (Resting, usize)
     requires here { IsSeatOf seats.now resting }
@@ -29,7 +41,7 @@ fn works(rt: &impl Wait, seats: &Seats, resting: Resting, commands: &[Command]) 
     'commands: for command in commands {
         if seat.refuses(command).is_none() {
             seat.perform(rt, seats, *command);
-            ran = ran.saturating_add(seat.ran().len());
+            ran = ran.saturating_add(take_all(seats, &mut seat));
         }
     }
     (seat.rest(rt, seats), ran)
@@ -50,7 +62,7 @@ fn run(rt: &(impl Wait + Threads + Sync), alloc: Global) -> Result<usize, StartF
         closing,
         Command::Forget { dst: 1 },
         Command::FullMajor,
-        // The collection queues the finaliser. It runs before the next command, and `ran` has it then.
+        // The collection queues the finaliser. It runs before the next command, and its reply waits then.
         Command::Poll,
     ];
     let builds = [BLOCK; 1000];

@@ -65,14 +65,23 @@ impl<'a> Seek for Bounded<'a> {
         output: &[u8],
     ) -> Result<Sought, AllocError> {
         let Some(mut search) = Search::begin(alloc, *sizes, script, output)? else {
-            return Ok(Sought::Nothing { states: 0 });
+            return Ok(Sought::Nothing {
+                states: 0,
+                near: None,
+            });
         };
         let found = self.go_on(&mut search)?;
         let states = search.states();
         Ok(match found {
             Found::History(entries) => Sought::History { entries, states },
-            Found::Nothing => Sought::Nothing { states },
-            Found::CutShort | Found::More => Sought::CutShort { states },
+            Found::Nothing => Sought::Nothing {
+                states,
+                near: Some(search.nearest()?),
+            },
+            Found::CutShort | Found::More => Sought::CutShort {
+                states,
+                near: Some(search.nearest()?),
+            },
         })
     }
 }

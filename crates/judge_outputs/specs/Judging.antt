@@ -9,9 +9,11 @@ use Rattle.text_script.specs.Script.{Scripted}
 use Rattle.text_script.specs.Spelling.{Spells}
 use Rattle.judge_outputs.specs.declared.judged.Judged.{Judged}
 use Rattle.judge_outputs.specs.declared.judged.Judged.TheVariants.{Legal, NoneFound, GaveUp, Script, NoSeparator, TooLong, Memory, ReadFault, WriteFault}
-use Rattle.judge_outputs.specs.Answer.{ExplainsScript}
+use Rattle.judge_outputs.specs.declared.explain.Near.{Near}
+use Rattle.judge_outputs.specs.Answer.{ExplainsScript, IsTrueNear}
 use Rattle.judge_outputs.specs.Input.{HasParts, HasNoParts}
 use Rattle.judge_outputs.specs.Reading.{IsReadInPart, ReadsAll}
+use Rattle.judge_outputs.specs.Refusal.{refused_text}
 use Rattle.judge_outputs.specs.Show.{legal_text, none_text, gave_up_text}
 use Rattle.judge_outputs.specs.Written.{Judges, StopsWriting}
 
@@ -30,11 +32,20 @@ pub record TellsLegal (z : Sizes) (bytes text : List ℕ) : Type 0 where
   pub explains : ExplainsScript z script output history
   pub text_is : text ≡ legal_text history
 
+-- a refusal, and what is told beside it: nothing, or a legal output that the judged one is as up to a line
+pub record TellsRefused (z : Sizes) (bytes refusal text : List ℕ) : Type 0 where
+  pub script : Scripted
+  pub output : List ℕ
+  pub input : IsInput z.domains bytes script output
+  pub near : Option Near
+  pub is : IsTrueNear z script output near
+  pub text_is : text ≡ refused_text refusal near
+
 -- the text of an answer
 abbrev pub Tells : Sizes → List ℕ → Judged → List ℕ → Type 0
 Tells z bytes Legal text = TellsLegal z bytes text
-Tells z bytes NoneFound text = (states : ℕ) × (text ≡ none_text states)
-Tells z bytes GaveUp text = (states : ℕ) × (text ≡ gave_up_text states)
+Tells z bytes NoneFound text = (states : ℕ) × TellsRefused z bytes (none_text states) text
+Tells z bytes GaveUp text = (states : ℕ) × TellsRefused z bytes (gave_up_text states) text
 Tells z bytes _ text = ⊥
 
 -- the script before the line between has this first fault

@@ -4,6 +4,7 @@ pub mod Input
 pub mod Judging
 pub mod Ordering
 pub mod Reading
+pub mod Refusal
 pub mod Replays
 pub mod Sections
 pub mod Show

@@ -41,3 +41,7 @@ none_text states = codes "no history found in " ++ decimal states ++ line (codes
 -- that the search was given up
 abbrev pub gave_up_text : ℕ → List ℕ
 gave_up_text states = codes "gave up after " ++ decimal states ++ line (codes " states")
+
+-- a legal output near the judged one, and the first line of the judged one that isn't as in it
+abbrev pub near_text : ℕ → List ℕ → List ℕ
+near_text n near = codes "line " ++ decimal n ++ line (codes " is the first that isn't as in this output, which is legal:") ++ near

@@ -12,7 +12,7 @@ use crate::Judged;
 use crate::explain::{Explained, Seek, explain};
 use crate::input::split_input;
 use crate::reading::{ReadStop, read_bytes};
-use crate::show::{gave_up, legal, none_found};
+use crate::show::{gave_up_near, legal, none_found};
 use model_core::state::Sizes;
 use std::alloc::{AllocError, Global};
 use text_ends::{Failed, Sink, Source, write_all};
@@ -54,12 +54,12 @@ fn tell(alloc: Global, explained: &Explained) -> Result<Answer, AllocError>
             text: legal(alloc, history)?,
             judged: Judged::Legal,
         }),
-        Explained::NoneFound { states } => Ok(Answer {
-            text: none_found(alloc, *states)?,
+        Explained::NoneFound { states, near } => Ok(Answer {
+            text: none_found(alloc, *states, near)?,
             judged: Judged::NoneFound,
         }),
-        Explained::GaveUp { states } => Ok(Answer {
-            text: gave_up(alloc, *states)?,
+        Explained::GaveUp { states, near } => Ok(Answer {
+            text: gave_up_near(alloc, *states, near)?,
             judged: Judged::GaveUp,
         }),
     }
@@ -114,7 +114,7 @@ fn judge_bytes<K: Sink, F: Seek>(
 /// Judges an output: reads a script, a line `---` and an output from the source, has the search look for a
 /// legal history of a heap of these sizes in which each domain makes the commands of its section, each once and in order, and
 /// ends, and which prints the output (of a script of version 3, the steps that its section stands for), and writes what came of it: `legal` and a line for each entry of that history, or that
-/// none was found, or that the search was given up.
+/// none was found, or that the search was given up, then with a legal output that is near the judged one.
 ///
 /// The refusals come in the order in which the work is done: reading, too long an input, no line `---`, the script, writing. A
 /// read or a write that failed isn't tried again. Want of memory may come at any time before the first byte is written.

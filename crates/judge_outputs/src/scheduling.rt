@@ -15,7 +15,7 @@ use crate::Judged;
 use crate::explain::{Explained, Seek, explain};
 use crate::judging::read_input;
 use crate::reading::{ReadStop, read_bytes};
-use crate::show::{gave_up, none_found};
+use crate::show::{gave_up_near, none_found};
 use crate::turns::{gather_turns, turns_text};
 use judge_plain::scheduled::scheduled_text;
 use model_core::entry::Entry;
@@ -141,12 +141,12 @@ fn tell(
 {
     match explained {
         Explained::Legal(history) => tell_found(alloc, sizes, script, history, output),
-        Explained::NoneFound { states } => Ok(Answer {
-            text: none_found(alloc, *states)?,
+        Explained::NoneFound { states, near } => Ok(Answer {
+            text: none_found(alloc, *states, near)?,
             judged: TurnsJudged::Other(Judged::NoneFound),
         }),
-        Explained::GaveUp { states } => Ok(Answer {
-            text: gave_up(alloc, *states)?,
+        Explained::GaveUp { states, near } => Ok(Answer {
+            text: gave_up_near(alloc, *states, near)?,
             judged: TurnsJudged::Other(Judged::GaveUp),
         }),
     }

@@ -3,6 +3,7 @@ mod collect;
 mod command;
 mod lines;
 mod list;
+mod near;
 mod plain;
 mod reach;
 mod run;
@@ -11,4 +12,4 @@ mod section;
 mod state;
 mod step;
 
-pub use search::{Found, Search};
+pub use search::{Found, Nearest, Search};

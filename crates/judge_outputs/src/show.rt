@@ -2,8 +2,10 @@
 ghost use Rattle.std.specs.Prelude.{◌≡◌, ◌++◌, ◌∷◌, [], OnOk, IfOk, codes, decimal, flat_map};
 ghost use Rattle.model_core.specs.Output.{line};
 ghost use Rattle.text_script.specs.Spelling.{command_text};
-ghost use Rattle.judge_outputs.specs.Show.{answered_text, entry_text, gave_up_text, legal_text, none_text, places_text};
+ghost use Rattle.judge_outputs.specs.Refusal.{beside_text, refused_text};
+ghost use Rattle.judge_outputs.specs.Show.{answered_text, entry_text, gave_up_text, legal_text, near_text, none_text, places_text};
 
+use crate::explain::Near;
 use itoa::Buffer;
 use model_core::command::Command;
 use model_core::entry::{Entry, Places};
@@ -171,16 +173,45 @@ pub(crate) fn legal(alloc: Global, history: &[Entry]) -> Result<Vec<u8>, AllocEr
     Ok(text)
 }
 
-/// That none was found in so many states.
-pub(crate) fn none_found(alloc: Global, states: u64) -> Result<Vec<u8>, AllocError>
-    ensures { IfOk result (λ v. v.items ≡ none_text states) }
+// Puts a legal output that is near at the end.
+fn push_near(text: &mut Vec<u8>, near: &Near) -> Result<(), AllocError>
+    ensures { OnOk result (text.new.items ≡ text.old.items ++ near_text near.now.line near.now.text.items) }
 {
-    counted(
+    push_count(
+        text,
+        b"line ",
+        near.line,
+        b" is the first that isn't as in this output, which is legal:\n",
+    )?;
+    push(text, &near.text)
+}
+
+// Puts what is told behind a refusal at the end.
+fn push_beside(text: &mut Vec<u8>, near: &Option<Near>) -> Result<(), AllocError>
+    ensures { OnOk result (text.new.items ≡ text.old.items ++ beside_text near.now) }
+{
+    match near {
+        Some(near) => push_near(text, near),
+        None => Ok(()),
+    }
+}
+
+/// That none was found in so many states, and a legal output that is near.
+pub(crate) fn none_found(
+    alloc: Global,
+    states: u64,
+    near: &Option<Near>,
+) -> Result<Vec<u8>, AllocError>
+    ensures { IfOk result (λ v. v.items ≡ refused_text (none_text states) near.now) }
+{
+    let mut text = counted(
         alloc,
         b"no history found in ",
         states,
         b" states, which are all; tests alone show that there is none then\n",
-    )
+    )?;
+    push_beside(&mut text, near)?;
+    Ok(text)
 }
 
 /// That the search was given up after so many states.
@@ -188,4 +219,17 @@ pub(crate) fn gave_up(alloc: Global, states: u64) -> Result<Vec<u8>, AllocError>
     ensures { IfOk result (λ v. v.items ≡ gave_up_text states) }
 {
     counted(alloc, b"gave up after ", states, b" states\n")
+}
+
+/// That the search was given up after so many states, and a legal output that is near.
+pub(crate) fn gave_up_near(
+    alloc: Global,
+    states: u64,
+    near: &Option<Near>,
+) -> Result<Vec<u8>, AllocError>
+    ensures { IfOk result (λ v. v.items ≡ refused_text (gave_up_text states) near.now) }
+{
+    let mut text = gave_up(alloc, states)?;
+    push_beside(&mut text, near)?;
+    Ok(text)
 }

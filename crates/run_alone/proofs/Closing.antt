@@ -10,9 +10,12 @@ use Rattle.run_turns.specs.declared.supply.Supply.TheVariants.{Closed, Open, Sec
 use Rattle.run_turns.specs.declared.turned.Turned.{Turned}
 use Rattle.run_turns.specs.declared.turned.Turned.TheVariants.{Did, Waiting as WaitsFor, Hungry, Held, Idle}
 use Rattle.run_turns.specs.declared.turned.Turned.TheVariants.{Ended as Over}
-use Rattle.run_turns.specs.Runs.{RunView, CalmAnswers, CalmDid, IsRun}
+use Rattle.run_turns.specs.Runs.{AddsRan, RunView, CalmAnswers, CalmDid, IsRun}
 use Rattle.run_turns.specs.Runs.CalmDid.{Finalises, Wishes, Refuses, Tries, Works, Ends, Sees, Makes, Tells, WishesToTell}
 use Rattle.step_finalisers.specs.Registering.{count_of}
+use Rattle.heap_rule.specs.Limits.{sizes_in}
+use Rattle.run_turns.proofs.Adding.{adds_on, turn_adds}
+use Rattle.run_turns.proofs.OfSingly.Driven.{closed_handed}
 use Rattle.run_turns.proofs.GoingLemmas.{calm_goes}
 use Rattle.run_turns.proofs.StretchLemmas.{calm_stretches}
 use Rattle.run_alone.specs.Idling.{IdleAnswers, Idles}
@@ -73,3 +76,8 @@ idles_calm h front r s a idle here is says = idles_on h front r s idle here (cal
 -- one that hasn't ended ran a finaliser
 pub closes_fewer : (r s : RunView) → Closes r s → s.ended ≡ false → (s.ended ≡ r.ended) × (count_of s.token.view.own.finalisers < count_of r.token.view.own.finalisers)
 closes_fewer r s c running = ⊎_elim (λ ended. absurd (true≢false (sym ended ∙ running))) (λ ran. ran) c.fewer
+
+-- and what waits to be taken grows at its end
+pub closes_adds : (h : SharedHeap) (start r s : RunView) (a : Turned) → IsIn r.token h → r.supply ≡ Closed → r.ended ≡ false → AddsRan (sizes_in h.config) start r → CalmAnswers h r s a → AddsRan (sizes_in h.config) start s
+closes_adds h start r s a here closed running adds says =
+    adds_on (sizes_in h.config) start r s adds (turn_adds (sizes_in h.config) r s (closed_handed r.supply closed) (calm_goes h r s a says (λ ended. absurd (true≢false (sym ended ∙ running)))) (calm_stretches h r s a here says))

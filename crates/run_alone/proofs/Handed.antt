@@ -1,5 +1,5 @@
 -- A command that is made at once, or handed in.
-use Rattle.std.proofs.Common.{◌≡◌, ◌∙◌, ◌⊎◌, ◌+◌, ⊎_elim, ℕ, None, refl, sym, ap}
+use Rattle.std.proofs.Common.{◌≡◌, ◌∙◌, ◌⊎◌, ◌+◌, ⊎_elim, ℕ, Some, None, refl, sym, ap}
 use Rattle.model_core.specs.declared.command.Command as model
 use Rattle.model_core.specs.declared.reply.Reply.{Reply}
 use Rattle.heap_rule.specs.declared.config.Config.{Config}
@@ -9,9 +9,11 @@ use Rattle.heap_rule.specs.Standing.{with_front}
 use Rattle.heap_rule.specs.Token.{SharedHeap, IsIn}
 use Rattle.do_alloc.proofs.OfPools.Seeking.{sought_view}
 use Rattle.run_turns.specs.declared.supply.Supply.TheVariants.{Open}
-use Rattle.run_turns.specs.Runs.{RunView, IsRun, MakesNow, MaySubmit, PutsOff, submitted, wanting}
+use Rattle.run_turns.specs.Runs.{AddsRan, RunView, IsRun, MakesNow, MaySubmit, PutsOff, submitted, wanting}
 use Rattle.run_turns.specs.Runs.PutsOff.{HasArrived, OwesFinaliser, WorksFirst, IsWanted, IsTried}
 use Rattle.run_turns.specs.Singly.Driving.{Awaits}
+use Rattle.heap_rule.specs.Limits.{sizes_in}
+use Rattle.run_turns.proofs.Adding.{adds_on, now_adds, submit_adds}
 use Rattle.run_turns.proofs.AtOnce.{has_waited}
 use Rattle.run_turns.proofs.OfSingly.Begun.{handed_in, may_still}
 use Rattle.run_alone.specs.Lone.{IsLone}
@@ -45,19 +47,25 @@ module _ (h : SharedHeap) (old new : RunView) (c : model.Command) (reply : Reply
   pub made_last : last_of h.config new ≡ last_of h.config old
   made_last = last_same h.config old new m.runs (ap (λ (r : RunView). r.left) m.made.0 ∙ m.runs) m.made.1.stays.arrivals
 
+  pub made_adds : IsIn old.token h → AddsRan (sizes_in h.config) old new
+  made_adds was = now_adds h old new c (Some reply) was m
+
   pub made_arrivals : new.token.view.own.arrivals ≡ old.token.view.own.arrivals
   made_arrivals = m.made.1.stays.arrivals
 
 -- or put off, and handed in
 module _ (h : SharedHeap) (old between : RunView) (c : model.Command) (was : IsIn old.token h) (here : IsIn between.token h) (may : MaySubmit old c) (p : PutsOff h old between c) where
   pub off_may : MaySubmit between c
-  off_may = may_still h old between c was here may (has_waited h old between c p)
+  off_may = may_still old between c may (has_waited h old between c p)
 
   pub off_awaits : Awaits h old.token.view c (submitted between c)
   off_awaits = handed_in h old between (submitted between c) c here may.more (has_waited h old between c p) refl
 
   pub off_lone : IsRun (submitted between c) → h.config.domains ≡ 1 → IsLone h (submitted between c)
   off_lone is alone = lone_submitted h (submitted between c) here is alone (ap (λ (r : RunView). r.supply) (has_waited h old between c p).run ∙ may.more) refl
+
+  pub off_adds : AddsRan (sizes_in h.config) old (submitted between c)
+  off_adds = adds_on (sizes_in h.config) old between (submitted between c) (now_adds h old between c None was p) (submit_adds (sizes_in h.config) between c)
 
   pub off_last : old.left ≡ None → last_of h.config (submitted between c) ≡ last_of h.config old
   off_last runs = last_same h.config old (submitted between c) runs (ap (λ (r : RunView). r.left) (has_waited h old between c p).run ∙ runs) (arrivals_stay h old between c p)

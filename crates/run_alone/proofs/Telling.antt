@@ -19,7 +19,8 @@ use Rattle.run_turns.specs.Singly.Driving.{Answered, AwaitAnswers, Awaits}
 use Rattle.run_turns.proofs.GoingLemmas.{IsSame, answered_goes, calm_goes, gone_goes, seen_goes as answer_goes}
 use Rattle.run_turns.proofs.Moving.{front_prefix}
 use Rattle.run_turns.proofs.OfSingly.Begun.{handed_in}
-use Rattle.run_turns.proofs.OfSingly.Driven.{awaits_turn}
+use Rattle.run_turns.proofs.Adding.{adds_nothing, adds_nowhere, adds_on, turn_adds}
+use Rattle.run_turns.proofs.OfSingly.Driven.{awaits_turn, open_handed}
 use Rattle.run_turns.proofs.StretchLemmas.{calm_stretches, passed_stretches}
 use Rattle.run_turns.proofs.Taking.{takes_none}
 use Rattle.run_alone.specs.Lone.{Tells}
@@ -27,7 +28,7 @@ use Rattle.run_alone.specs.Lone.{Tells}
 -- whoever has the command to make still hasn't made it
 module _ (h : SharedHeap) (a b : RunView) (commands : b.commands ≡ a.commands) (next : b.next ≡ a.next) (first : Tells h a b) (start : DomainView) (c : model.Command) (w : Awaits h start c a) where
   pub still : Awaits h start c b
-  still = by (answer_of b) (first start c w) where
+  still = by (answer_of b) (first.answers start c w) where
     by : (o : Option Reply) → AwaitAnswers h start c b o → Awaits h start c b
     by None x = x
     by (Some reply) x = absurd (
@@ -38,16 +39,28 @@ module _ (h : SharedHeap) (a b : RunView) (commands : b.commands ≡ a.commands)
 
 -- one step after the other, where the first hasn't made the command
 pub tells_on : (h : SharedHeap) (a b c : RunView) → b.commands ≡ a.commands → b.next ≡ a.next → Tells h a b → Tells h b c → Tells h a c
-tells_on h a b c commands next first second start command w = second start command (still h a b commands next first start command w)
+tells_on h a b c commands next first second = record {
+  answers = λ start command w. second.answers start command (still h a b commands next first start command w);
+  ran = adds_on (sizes_in h.config) a b c first.ran second.ran;
+}
 
 pub tells_itself : (h : SharedHeap) (a : RunView) → Tells h a a
-tells_itself h a start command w = subst (λ (o : Option Reply). AwaitAnswers h start command a o) (sym none) w where
-  none : answer_of a ≡ None
-  none = λ i. first_reply (w.more i) (w.replies i)
+tells_itself h a = record {
+  answers = λ start command w. subst (λ (o : Option Reply). AwaitAnswers h start command a o) (sym (none start command w)) w;
+  ran = adds_nowhere (sizes_in h.config) a;
+}
+  where
+    none : (start : DomainView) (command : model.Command) → Awaits h start command a → answer_of a ≡ None
+    none start command w = λ i. first_reply (w.more i) (w.replies i)
 
 -- a step while it runs
 pub tells_calm : (h : SharedHeap) (r s : RunView) (a : Turned) → IsIn r.token h → IsIn s.token h → IsRun r → r.supply ≡ Open → CalmAnswers h r s a → Tells h r s
-tells_calm h r s a was here is more says start command w = awaits_turn h start command r s w here (calm_stretches h r s a was says) (calm_goes h r s a says (λ ended. absurd (is.shut ended more)))
+tells_calm h r s a was here is more says =
+    let stretch = calm_stretches h r s a was says in
+    let goes = calm_goes h r s a says (λ ended. absurd (is.shut ended more)) in record {
+      answers = λ start command w. awaits_turn h start command r s w here stretch goes;
+      ran = turn_adds (sizes_in h.config) r s (open_handed r.supply more) goes stretch;
+    }
 
 -- one that sees more of the history
 pub seen_stretches : (h : SharedHeap) (r : RunView) (history : List Entry) → Begins history r.token.view → Stretches (sizes_in h.config) r (run_seeing r history)
@@ -57,13 +70,19 @@ pub seen_goes : (r : RunView) (history : List Entry) → Begins history r.token.
 seen_goes r history begins = record { commands = refl; supply = refl; spawned = refl; number = refl; front = front_prefix _ _ _ begins; over = λ ended. record { ended = ended; next = refl; replies = refl } }
 
 pub tells_seen : (h : SharedHeap) (r : RunView) (history : List Entry) → IsIn r.token h → Begins history r.token.view → Tells h r (run_seeing r history)
-tells_seen h r history here begins start command w = awaits_turn h start command r (run_seeing r history) w here (seen_stretches h r history begins) (seen_goes r history begins)
+tells_seen h r history here begins = record {
+  answers = λ start command w. awaits_turn h start command r (run_seeing r history) w here (seen_stretches h r history begins) (seen_goes r history begins);
+  ran = adds_nothing (sizes_in h.config) r (run_seeing r history) refl refl begins;
+}
 
 -- one that arrives
 pub tells_halted : (h : SharedHeap) (r : RunView) → IsIn (halted r).token h → Tells h r (halted r)
-tells_halted h r here start command w = awaits_turn h start command r (halted r) w here
-    (ByOthers (record { next = refl; replies = refl; ran = refl; ended = refl; front = front_whole r.token.view.own.number r.token.view.seen.front; listed = refl; takes = takes_none _ _ refl refl }))
-    (record { commands = refl; supply = refl; spawned = refl; number = refl; front = front_prefix _ _ _ (front_whole r.token.view.own.number r.token.view.seen.front); over = λ ended. record { ended = ended; next = refl; replies = refl } })
+tells_halted h r here = record {
+  answers = λ start command w. awaits_turn h start command r (halted r) w here
+      (ByOthers (record { next = refl; replies = refl; ran = refl; ended = refl; front = front_whole r.token.view.own.number r.token.view.seen.front; listed = refl; takes = takes_none _ _ refl refl }))
+      (record { commands = refl; supply = refl; spawned = refl; number = refl; front = front_prefix _ _ _ (front_whole r.token.view.own.number r.token.view.seen.front); over = λ ended. record { ended = ended; next = refl; replies = refl } });
+  ran = adds_nothing (sizes_in h.config) r (halted r) refl refl (front_whole r.token.view.own.number r.token.view.seen.front);
+}
 
 -- and one that goes on in a pause
 same_past : (decider : Decider) (h : SharedHeap) (q s : RunView) → PassesOn h decider q s Did → IsSame q s
@@ -82,7 +101,12 @@ pub goes_past : (decider : Decider) (h : SharedHeap) (q s : RunView) → IsRun q
 goes_past decider h q s is more p = let g = same_past decider h q s p in record { commands = g.commands; supply = g.supply; spawned = g.spawned; number = g.number; front = g.front; over = λ ended. absurd (is.shut ended more) }
 
 pub tells_passed : (decider : Decider) (h : SharedHeap) (q s : RunView) → IsIn q.token h → IsIn s.token h → IsRun q → q.supply ≡ Open → PassesOn h decider q s Did → Tells h q s
-tells_passed decider h q s was here is more p start command w = awaits_turn h start command q s w here (passed_stretches decider h q s Did was p) (goes_past decider h q s is more p)
+tells_passed decider h q s was here is more p =
+    let stretch = passed_stretches decider h q s Did was p in
+    let goes = goes_past decider h q s is more p in record {
+      answers = λ start command w. awaits_turn h start command q s w here stretch goes;
+      ran = turn_adds (sizes_in h.config) q s (open_handed q.supply more) goes stretch;
+    }
 
 -- a command that was just handed in
 pub tells_submitted : (h : SharedHeap) (r : RunView) (c : model.Command) → IsIn r.token h → r.supply ≡ Open → Awaits h r.token.view c (submitted r c)

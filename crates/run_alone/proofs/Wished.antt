@@ -15,7 +15,8 @@ use Rattle.run_turns.specs.declared.turned.Turned.TheVariants.{Ended as Over}
 use Rattle.run_turns.specs.Runs.{RunView, CalmAnswers, GoesBy, GoesOn, IsRun, Resumes, RunAnswers, SeesAnswer, Starts, Stops, Stretches, TurnAnswers, wanting}
 use Rattle.run_turns.specs.Runs.{IsAnswered as RunIsAnswered}
 use Rattle.run_turns.proofs.Looking.{looked_is_run}
-use Rattle.run_turns.proofs.OfSingly.Driven.{awaits_turn}
+use Rattle.run_turns.proofs.Adding.{turn_adds}
+use Rattle.run_turns.proofs.OfSingly.Driven.{awaits_turn, open_handed}
 use Rattle.run_turns.proofs.PauseLemmas.{even_next}
 use Rattle.run_alone.specs.Lone.{IsLone, LooksFirst, Tells as Telling, Wants}
 use Rattle.run_alone.proofs.Keeping.{Came, asks_none, came, lone_calm, wants_none, wants_now}
@@ -30,7 +31,10 @@ module _ (h : SharedHeap) (r s : RunView) (limits : IsWithinLimits (sizes_in h.c
   q = wanting r 0
 
   tells : Telling h r s
-  tells start command w = awaits_turn h start command r s w here stretch goes
+  tells = record {
+    answers = λ start command w. awaits_turn h start command r s w here stretch goes;
+    ran = turn_adds (sizes_in h.config) r s (open_handed r.supply l.more) goes stretch;
+  }
 
   -- it found a wish
   stops : Stops r s → LooksFirst h r s

@@ -6,13 +6,14 @@ use Rattle.model_core.specs.declared.entry.Entry.{Entry}
 use Rattle.heap_rule.specs.declared.phase.Kind.{Kind}
 use Rattle.heap_rule.specs.declared.phase.Kind.TheVariants.{Run, Answer}
 use Rattle.heap_rule.specs.Ending.{Begins}
+use Rattle.heap_rule.specs.Limits.{sizes_in}
 use Rattle.heap_rule.specs.Phases.{IsEven, IsOdd}
 use Rattle.heap_rule.specs.Token.{SharedHeap, IsIn}
 use Rattle.gc_pause.specs.declared.phases.decider.Decider.{Decider}
 use Rattle.gc_pause.specs.declared.phases.decider.Decider.TheVariants.{Wishes, Caller}
 use Rattle.run_turns.specs.declared.supply.Supply.TheVariants.{Open}
 use Rattle.run_turns.specs.declared.turned.Turned.TheVariants.{Did}
-use Rattle.run_turns.specs.Runs.{RunView, IsRun, PassesOn, WaitsForAnswer, answer_of, is_asked, run_seeing, served_since}
+use Rattle.run_turns.specs.Runs.{AddsRan, RunView, IsRun, PassesOn, WaitsForAnswer, answer_of, is_asked, run_seeing, served_since}
 use Rattle.run_turns.specs.Singly.Driving.{AnswersAwaited}
 use Rattle.step_finalisers.specs.Registering.{count_of}
 use Rattle.run_alone.specs.Idling.{StaysIdle}
@@ -42,9 +43,10 @@ pub record IsLone (h : SharedHeap) (r : RunView) : Type 0 where
   pub asks : AsksOnce r
   pub unqueued : r.left ≡ None → Wants r → r.token.view.own.finalisers.queue.items ≡ []
 
--- whatever command it had to make, it has made it, or has it to make still
-abbrev pub Tells : SharedHeap → RunView → RunView → Type 0
-Tells h old new = AnswersAwaited h old new (answer_of new)
+-- whatever command it had to make, it has made it, or has it to make still. What finalisers replied meanwhile waits behind what waited
+pub record Tells (h : SharedHeap) (old new : RunView) : Type 0 where
+  pub answers : AnswersAwaited h old new (answer_of new)
+  pub ran : AddsRan (sizes_in h.config) old new
 
 -- its domain has arrived, and a step later it has gone through the phase that had begun, or runs again: nobody is there that it could wait for
 pub record PassesAlone (h : SharedHeap) (decider : Decider) (old new : RunView) : Type 0 where

@@ -2,6 +2,8 @@
 ghost use Rattle.std.specs.Prelude.{◌≡◌, ◌≤◌, List, length, false, true, None};
 ghost use Rattle.model_core.specs.declared.entry.Entry.{Entry};
 ghost use Rattle.heap_rule.specs.Token.{IsIn};
+ghost use Rattle.heap_rule.specs.Limits.{sizes_in};
+ghost use Rattle.run_turns.specs.Runs.{AddsRan};
 ghost use Rattle.run_alone.specs.Idling.{Idles, Over};
 ghost use Rattle.run_turns.specs.declared.supply.Supply.TheVariants.{Closed};
 
@@ -18,6 +20,7 @@ pub fn end(heap: &Heap, run: &mut DomainRun)
     requires running { run.old.ended ≡ false }
     ensures here { IsIn run.new.token heap.now }
     ensures ended { run.new.ended ≡ true }
+    ensures ran { AddsRan (sizes_in heap.now.config) run.old run.new }
     ensures over { (front : List Entry) → Idles heap.now front run.old → Over heap.now front run.new }
 {
     'turns: loop {

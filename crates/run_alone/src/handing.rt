@@ -1,7 +1,8 @@
 //! The first way of a command: at once, or it is handed in.
 ghost use Rattle.std.specs.Prelude.{◌≡◌, ◌⊎◌, None, IfSome};
 ghost use Rattle.heap_rule.specs.Token.{IsIn};
-ghost use Rattle.run_turns.specs.Runs.{MaySubmit, NowAnswers};
+ghost use Rattle.run_turns.specs.Runs.{AddsRan, MaySubmit, NowAnswers};
+ghost use Rattle.heap_rule.specs.Limits.{sizes_in};
 ghost use Rattle.run_turns.specs.Singly.Driving.{Answered, Awaits};
 ghost use Rattle.run_alone.specs.Lone.{IsLone};
 ghost use Rattle.run_alone.specs.Paces.{last_of};
@@ -36,6 +37,7 @@ pub fn hand_in(heap: &Heap, run: &mut DomainRun, command: Command) -> Option<Rep
     ensures made { IfSome result (λ reply. Answered heap.now run.old.token.view command reply run.new) }
     ensures awaits { result ≡ None → Awaits heap.now run.old.token.view command run.new }
     ensures unasked { run.new.asked ≡ None }
+    ensures ran { AddsRan (sizes_in heap.now.config) run.old run.new }
     ensures last { last_of heap.now.config run.new ≡ last_of heap.now.config run.old }
     ensures arrivals { run.new.token.view.own.arrivals ≡ run.old.token.view.own.arrivals }
 {

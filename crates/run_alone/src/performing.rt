@@ -1,5 +1,7 @@
 //! A command that was handed in to a heap's only domain.
 ghost use Rattle.std.specs.Prelude.{◌≡◌, ◌<◌, ◌≤◌, ◌+◌, ◌*◌, ◌^◌, [], length, vec_capacity, None, Some};
+ghost use Rattle.heap_rule.specs.Limits.{sizes_in};
+ghost use Rattle.run_turns.specs.Runs.{AddsRan};
 ghost use Rattle.run_turns.specs.Singly.Driving.{AnswersAwaited};
 ghost use Rattle.run_alone.specs.Lone.{IsLone};
 ghost use Rattle.run_alone.specs.Paces.{IsPaced, last_of, most_in_pause};
@@ -21,6 +23,7 @@ pub fn finish(heap: &Heap, run: DomainRun, room: &mut Vec<Domain>) -> (DomainRun
     requires fits { 1 < vec_capacity room.old }
     ensures lone { IsLone heap.now result.0 }
     ensures answered { AnswersAwaited heap.now run result.0 (Some result.1) }
+    ensures ran { AddsRan (sizes_in heap.now.config) run result.0 }
     ensures spends { last_of heap.now.config result.0 ≤ last_of heap.now.config run + 3 * most_in_pause }
     ensures paced { IsPaced heap.now.config result.0 }
     ensures room { (room.new.items ≡ []) × (vec_capacity room.new ≡ vec_capacity room.old) }

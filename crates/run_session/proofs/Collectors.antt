@@ -27,7 +27,10 @@ use Rattle.run_turns.specs.Kept.{is_run_of}
 use Rattle.weak_laws.specs.Tables.Performing.{Performed}
 use Rattle.weak_laws.specs.Tables.Thinning.{AllCollector, is_collector}
 use Rattle.weak_laws.proofs.OfTables.StepLemmas.{legal_parts}
-use Rattle.run_session.specs.Stopping.{EndsAfter, StopsAfter}
+use Rattle.run_session.specs.Stopping.{EndedView, EndsAfter, EndsIn, Follows, StopsAfter}
+use Rattle.run_session.specs.Sessions.{SessionView}
+use Rattle.heap_rule.specs.declared.config.Config.{Config}
+use Rattle.heap_rule.specs.Limits.{sizes_in}
 
 -- of one domain there is no other
 no_other : (xs : List DomainState) (d : ℕ) → length xs ≡ 1 → (slice_index_or xs (suc d) no_domain).ended ≡ true
@@ -116,29 +119,39 @@ performs z old new c ran r limits one none p =
     }
 
 -- and at the end
-pub ends : (z : Sizes) (front before last history : List Entry) (ran : List Reply) → IsWithinLimits z → z.domains ≡ 1 → Finalised z 0 front before ran → last ≡ before ++ End 0 ∷ [] → IsFrontOf 0 history last → Legal z history → EndsAfter z front history
-ends z front before last history ran limits one finalised is f legal =
-    let whole : LegalFrom (opening z) last × LegalFrom (state_after (opening z) last) f.rest = legal_parts (opening z) last f.rest (subst (Legal z) f.appends legal) in record {
-      before = before;
-      ran = ran;
-      finalised = finalised;
+pub follows : (z : Sizes) (front history : List Entry) → IsWithinLimits z → z.domains ≡ 1 → IsFrontOf 0 history front → Legal z history → Follows z front history
+follows z front history limits one f legal =
+    let whole : LegalFrom (opening z) front × LegalFrom (state_after (opening z) front) f.rest = legal_parts (opening z) front f.rest (subst (Legal z) f.appends legal) in record {
       after = f.rest;
-      last = alone_after z last f.rest limits one whole.1 f.others;
-      appends = f.appends ∙ ap (λ (l : List Entry). l ++ f.rest) is;
+      last = alone_after z front f.rest limits one whole.1 f.others;
+      appends = f.appends;
       legal = legal;
     }
 
+pub ends : (old : SessionView) (new : EndedView) (history : List Entry) → EndsIn old new → Follows (sizes_in new.config) new.front history → EndsAfter (sizes_in old.config) old.front history
+ends old new history e f = record {
+  before = e.before;
+  ran = e.ran;
+  finalised = e.finalised;
+  after = f.after;
+  last = f.last;
+  appends = f.appends ∙ ap (λ (l : List Entry). l ++ f.after) e.front;
+  legal = subst (λ (k : Config). Legal (sizes_in k) history) e.config f.legal;
+}
+
 -- where none ran by then
-pub stops : (z : Sizes) (front before last history : List Entry) (ran : List Reply) → IsWithinLimits z → z.domains ≡ 1 → ran ≡ [] → Finalised z 0 front before ran → last ≡ before ++ End 0 ∷ [] → IsFrontOf 0 history last → Legal z history → StopsAfter z front history
-stops z front before last history ran limits one none finalised is f legal =
-    let whole : LegalFrom (opening z) last × LegalFrom (state_after (opening z) last) f.rest = legal_parts (opening z) last f.rest (subst (Legal z) f.appends legal) in
-    let plain : Finalised z 0 front before [] = subst (Finalised z 0 front before) none finalised in
-    let first : Legal z before = (legal_parts (opening z) before (End 0 ∷ []) (subst (Legal z) is whole.0)).0 in
+pub stops : (old : SessionView) (new : EndedView) (history : List Entry) → IsWithinLimits (sizes_in old.config) → old.config.domains ≡ 1 → old.config.finals ≡ 0 → EndsIn old new → Follows (sizes_in new.config) new.front history → StopsAfter (sizes_in old.config) old.front history
+stops old new history limits one none e f =
+    let z : Sizes = sizes_in old.config in
+    let legal : Legal z history = subst (λ (k : Config). Legal (sizes_in k) history) e.config f.legal in
+    let whole : Legal z new.front = (legal_parts (opening z) new.front f.after (subst (Legal z) f.appends legal)).0 in
+    let plain : Finalised z 0 old.front e.before [] = subst (Finalised z 0 old.front e.before) (e.none none) e.finalised in
+    let first : Legal z e.before = (legal_parts (opening z) e.before (End 0 ∷ []) (subst (Legal z) e.front whole)).0 in
     record {
       before = plain.rest;
-      after = f.rest;
-      collector = collectors z front before limits one first plain;
-      last = alone_after z last f.rest limits one whole.1 f.others;
-      appends = f.appends ∙ (ap (λ (l : List Entry). l ++ f.rest) is ∙ ap (λ (h : List Entry). (h ++ End 0 ∷ []) ++ f.rest) plain.appends);
+      after = f.after;
+      collector = collectors z old.front e.before limits one first plain;
+      last = f.last;
+      appends = f.appends ∙ (ap (λ (l : List Entry). l ++ f.after) e.front ∙ ap (λ (h : List Entry). (h ++ End 0 ∷ []) ++ f.after) plain.appends);
       legal = legal;
     }

@@ -9,7 +9,7 @@ use Rattle.heap_rule.specs.declared.view.DomainView.{DomainView}
 use Rattle.heap_rule.specs.Limits.{sizes_in}
 use Rattle.heap_rule.specs.Token.{SharedHeap}
 use Rattle.heap_rule.specs.Rule.{state_of}
-use Rattle.run_turns.specs.Runs.{RunView}
+use Rattle.run_turns.specs.Runs.{AddsRan, RunView}
 use Rattle.run_turns.specs.Singly.Counting.{stats_of}
 use Rattle.run_turns.specs.Singly.Driving.{Answered, AnswersAwaited}
 use Rattle.step_finalisers.specs.Registering.{count_of}
@@ -20,7 +20,7 @@ use Rattle.run_session.specs.Sessions.{SessionView, fresh}
 -- what callers see of a session by its run. It is away only while a pause is gone through
 abbrev pub session_of : Config → Option RunView → SessionView
 session_of k None = fresh k
-session_of k (Some r) = record { config = k; front = r.token.view.seen.front; labels = r.token.view.own.serial; room = r.token.view.own.ephemerons.room; finals = k.finals - count_of r.token.view.own.finalisers; stats = stats_of r.token.view.own; ran = r.ran }
+session_of k (Some r) = record { config = k; front = r.token.view.seen.front; labels = r.token.view.own.serial; room = r.token.view.own.ephemerons.room; finals = k.finals - (count_of r.token.view.own.finalisers + length r.ran); stats = stats_of r.token.view.own; ran = r.ran }
 
 -- the domain has given out the labels that it has in the state
 abbrev pub HasGivenOut : SharedHeap → DomainView → Type 0
@@ -58,6 +58,7 @@ pub record Finishes (h : SharedHeap) (o p : Option RunView) (reply : Reply) : Ty
   pub is : p ≡ Some new
   pub lone : IsLone h new
   pub answered : AnswersAwaited h old new (Some reply)
+  pub ran : AddsRan (sizes_in h.config) old new
   pub spends : last_of h.config new ≤ last_of h.config old + 3 * most_in_pause
   pub paced : IsPaced h.config new
 
@@ -69,5 +70,6 @@ pub record Makes (h : SharedHeap) (o p : Option RunView) (c : Command) (reply : 
   pub is : p ≡ Some new
   pub lone : IsLone h new
   pub answered : Answered h old.token.view c reply new
+  pub ran : AddsRan (sizes_in h.config) old new
   pub spends : last_of h.config new ≤ last_of h.config old + 3 * most_in_pause
   pub paced : IsPaced h.config new

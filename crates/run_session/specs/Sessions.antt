@@ -1,5 +1,5 @@
 -- A session as its callers see it.
-use Rattle.std.specs.Prelude.{◌≡◌, ℕ, ◌+◌, ◌-◌, ◌≤◌, ◌<◌, List, [], Option, Some, None}
+use Rattle.std.specs.Prelude.{◌≡◌, ℕ, ◌+◌, ◌-◌, ◌≤◌, ◌<◌, List, [], ◌++◌, drop, length, Option, Some, None}
 use Rattle.model_core.specs.declared.command.Command.{Command}
 use Rattle.model_core.specs.declared.entry.Entry.{Entry}
 use Rattle.model_core.specs.declared.reply.Reply.{Reply}
@@ -13,7 +13,7 @@ use Rattle.run_turns.specs.declared.singly.counting.Stats.{Stats}
 use Rattle.run_session.specs.declared.refusing.Refusal.{Refusal}
 use Rattle.run_session.specs.declared.refusing.Refusal.TheVariants.{Unfit, Arrivals}
 
--- a session: the numbers of its heap, the history so far, how many labels were given out, how many more ephemerons and how many more finalisers fit, what the domain counts, and the replies of the finalisers that ran before its last command
+-- a session: the numbers of its heap, the history so far, how many labels were given out, how many more ephemerons and how many more finalisers fit, what the domain counts, and the replies of the finalisers that ran and weren't taken so far
 pub record SessionView : Type 0 where
   pub config : Config
   pub front : List Entry
@@ -35,9 +35,18 @@ fresh c = record { config = c; front = []; labels = 0; room = c.ephes; finals = 
 abbrev pub IsFirstOutside : ℕ → ℕ → ℕ → ℕ → ℕ → Type 0
 IsFirstOutside minor_words pools finals ephes k = first_outside (alone minor_words pools finals ephes) ≡ Some k
 
--- a command was made in a session, once, behind the finalisers that the session tells, and this is its reply
-abbrev pub PerformsIn : SessionView → SessionView → Command → Reply → Type 0
-PerformsIn old new c r = PerformedOn (sizes_in old.config) 0 old.front new.front c new.ran r
+-- the replies of the finalisers that ran between two
+abbrev pub ran_since : SessionView → SessionView → List Reply
+ran_since old new = drop (length old.ran) new.ran
+
+-- a command was made in a session, once, behind finalisers, and this is its reply. Theirs wait to be taken, behind those that waited
+pub record PerformsIn (old new : SessionView) (c : Command) (r : Reply) : Type 0 where
+  pub performed : PerformedOn (sizes_in old.config) 0 old.front new.front c (ran_since old new) r
+  pub waits : new.ran ≡ old.ran ++ ran_since old new
+
+-- a session of which the oldest reply was taken that waited, if one did: a finaliser more may be registered then
+abbrev pub taken : SessionView → SessionView
+taken s = record s { ran = drop 1 s.ran; finals = s.finals + (length s.ran - length (drop 1 s.ran)) }
 
 -- the replies of the domain after a history of the session's heap
 abbrev pub replies_of : SessionView → List Entry → List Reply

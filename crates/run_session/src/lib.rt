@@ -12,11 +12,13 @@
 #![tactic(auto)]
 
 pub mod domains;
+mod ended;
 mod performing;
 mod refusing;
 mod session;
 mod tables;
 
+pub use ended::EndedSession;
 pub use refusing::Refusal;
 pub use session::Session;
 pub use tables::TableSession;

@@ -1,5 +1,5 @@
 //! A heap of one domain, and the commands that are handed in to it.
-ghost use Rattle.std.specs.Prelude.{◌≡◌, ◌↔◌, ◌+◌, ◌-◌, ◌++◌, ◌∷◌, ◌<◌, ◌≤◌, ℕ, [], length, IfOk, None, Err};
+ghost use Rattle.std.specs.Prelude.{◌≡◌, ◌↔◌, ◌+◌, ◌-◌, ◌++◌, ◌∷◌, ◌<◌, ◌≤◌, ℕ, [], length, slice_get, IfOk, None, Err};
 ghost use Rattle.model_core.specs.Counts.Counts.{ephemerons_given, labels_given};
 ghost use Rattle.run_turns.specs.Tries.{registrations_of};
 ghost use Rattle.model_core.specs.Commands.{shown};
@@ -7,9 +7,10 @@ ghost use Rattle.model_core.specs.Domains.{IsWithinLimits, domain_at, register a
 ghost use Rattle.model_core.specs.History.{Legal, commands};
 ghost use Rattle.heap_rule.specs.Limits.{sizes_in};
 ghost use Rattle.heap_rule.specs.Rule.{state_of};
-ghost use Rattle.run_session.specs.Sessions.{IsFirstOutside, IsRefusedIn, MayPerform, PerformsIn, alone, fresh, most_arrivals, most_spent, replies_of};
-ghost use Rattle.run_session.specs.Stopping.{EndsAfter, StopsAfter};
+ghost use Rattle.run_session.specs.Sessions.{IsFirstOutside, IsRefusedIn, MayPerform, PerformsIn, alone, fresh, most_arrivals, most_spent, ran_since, replies_of, taken};
+ghost use Rattle.run_session.specs.Stopping.{EndsAfter, EndsIn, StopsAfter};
 
+use crate::ended::EndedSession;
 use crate::performing::{perform_on, run_in};
 use crate::refusing::Refusal;
 use gc_mark::Hints;
@@ -91,12 +92,13 @@ impl Session {
         run_in(&self.run).domain().ephes_room()
     }
 
-    /// How many more finalisers can be registered. One that was registered takes room until it has run.
+    /// How many more finalisers can be registered. One that was registered takes room until it ran and its reply was
+    /// [taken](Session::take_ran).
     pub fn finals_room(&self) -> usize
         ensures { result ≡ self.now.finals }
     {
         let _config = self.heap.config();
-        run_in(&self.run).domain().finals_room()
+        run_in(&self.run).finals_left()
     }
 
     /// How many labels are left for blocks: 4,294,967,295 less those that were given out.
@@ -115,12 +117,34 @@ impl Session {
         MOST_ARRIVALS - run_in(&self.run).domain().arrivals()
     }
 
-    /// The replies of the finalisers that ran before the last command, since the one before that: `fin` and
-    /// `last` lines in the order in which they ran.
-    pub fn ran(&self) -> &[Reply]
-        ensures { result.now ≡ self.now.ran }
+    /// How many finalisers ran whose replies wait to be taken.
+    pub fn ran_len(&self) -> usize
+        ensures { result ≡ length self.now.ran }
     {
-        run_in(&self.run).ran()
+        run_in(&self.run).ran_len()
+    }
+
+    /// The reply at this place of those that wait to be taken, from the oldest at 0 on: `fin` and `last` lines in the order
+    /// in which the finalisers ran. None exactly where fewer wait.
+    pub fn ran(&self, place: usize) -> Option<Reply>
+        ensures { result ≡ slice_get self.now.ran place }
+    {
+        run_in(&self.run).ran(place)
+    }
+
+    /// Takes the oldest reply of those that wait, which makes room for a finaliser more. None exactly where none waits.
+    pub fn take_ran(&mut self) -> Option<Reply>
+        ensures oldest { result ≡ slice_get self.old.ran 0 }
+        ensures others { self.new ≡ taken self.old }
+    {
+        let Some(run) = &mut self.run else {
+            unreachable!()
+        };
+        let _left = run.finals_left();
+        let reply = run.take_ran();
+        let _now = run.finals_left();
+        run.shows_faithful();
+        reply
     }
 
     /// What the domain counts: labels, words of its minor area, remembered fields, ephemerons, finalisers and arrivals.
@@ -128,10 +152,11 @@ impl Session {
         ensures stats { result ≡ self.now.stats }
         ensures labels { result.labels ≡ self.now.labels }
         ensures young { result.young_words ≤ self.now.config.minor_words }
-        ensures finals { result.finals + result.lasts + result.waiting + self.now.finals ≡ self.now.config.finals }
+        ensures finals { result.finals + result.lasts + result.waiting + length self.now.ran + self.now.finals
+            ≡ self.now.config.finals }
     {
         let _config = self.heap.config();
-        let _room = run_in(&self.run).domain().finals_room();
+        let _room = run_in(&self.run).finals_left();
         counts(run_in(&self.run))
     }
 
@@ -157,15 +182,16 @@ impl Session {
     }
 
     /// There is one domain, the numbers are within their limits, the history so far is legal for them, so many labels
-    /// were given out as it says, and no more finalisers fit than the numbers say.
+    /// were given out as it says, and no more finalisers fit, with those that wait to be taken, than the numbers say.
     pub fn shows_legal(&self)
         ensures alone { self.now.config.domains ≡ 1 }
         ensures limits { IsWithinLimits (sizes_in self.now.config) }
         ensures legal { Legal (sizes_in self.now.config) self.now.front }
         ensures labels { self.now.labels ≡ (domain_at (state_of self.now.config self.now.front) 0).serial }
-        ensures finals { self.now.finals ≤ self.now.config.finals }
+        ensures finals { self.now.finals + length self.now.ran ≤ self.now.config.finals }
     {
         let _config = self.heap.config();
+        let _left = run_in(&self.run).finals_left();
     }
 
     /// Makes a command, and answers its reply. The command fits the shared heap, its registers are below 16
@@ -173,10 +199,10 @@ impl Session {
     /// that it registers, a label for a block, and arrivals for its pauses. This call waits for nobody, and returns.
     ///
     /// The history grows by entries of the collector and by runs of the finalisers that waited, and then by this
-    /// command, and the reply is that of the state before it. [`ran`](Session::ran) has the replies of these
-    /// finalisers. A label is given out exactly where the command allocates and isn't answered `full`. Room
+    /// command, and the reply is that of the state before it. The replies of these finalisers wait until each is
+    /// [taken](Session::take_ran), behind those that wait. A label is given out exactly where the command allocates and isn't answered `full`. Room
     /// is taken for the ephemeron that it makes, and there is more only where ephemerons were swept. Room is
-    /// taken for the finaliser that it registers, and there is more for each that ran. A pause that the command
+    /// taken for the finaliser that it registers. A pause that the command
     /// needs is gone through by this thread; one in which a `full_major` is answered ends with the next command.
     #[inline(always)]
     pub fn perform(&mut self, command: Command) -> Reply
@@ -184,12 +210,12 @@ impl Session {
         ensures config { self.new.config ≡ self.old.config }
         ensures labels { self.new.labels ≡ self.old.labels + labels_given command result }
         ensures room { self.old.room ≤ self.new.room + ephemerons_given command result }
-        ensures finals { self.old.finals + length self.new.ran ≤ self.new.finals + registrations_of command }
+        ensures finals { self.old.finals ≤ self.new.finals + registrations_of command }
         ensures arrivals { self.new.stats.arrivals ≤ self.old.stats.arrivals + most_spent }
         ensures performed { PerformsIn self.old self.new command result }
         ensures commands { commands self.new.front 0 ≡ commands self.old.front 0 ++ command ∷ [] }
         ensures replies { replies_of self.old self.new.front ≡ replies_of self.old self.old.front ++
-            (self.new.ran ++ result ∷ []) }
+            (ran_since self.old self.new ++ result ∷ []) }
     {
         let _limits = self.heap.config();
         let _left = self.labels_left();
@@ -211,23 +237,31 @@ impl Session {
         reply
     }
 
-    /// Ends the domain's trace and the heap. The finalisers that wait run before that, and what else is registered
-    /// never runs. The history of the ended heap is the one so far, then entries of the collector and these runs,
-    /// the end of the trace, and maybe more of the collector's. Where there is no room for finalisers none runs.
-    /// This call waits for nobody, and returns.
+    /// Ends the domain's trace. The finalisers that wait run before that, and what else is registered never runs. Their
+    /// replies wait to be taken behind those that wait. Where there is no room for finalisers none runs. This call waits for
+    /// nobody, and returns.
+    pub fn end(self) -> EndedSession
+        ensures { EndsIn self result }
+    {
+        let Session { heap, run, room } = self;
+        let _limits = heap.config();
+        let Some(run) = run else { unreachable!() };
+        let mut room = room;
+        let mut run = come_back(&heap, run, &mut room);
+        run.close();
+        end(&heap, &mut run);
+        EndedSession::new(heap, run, room)
+    }
+
+    /// Ends the domain's trace and the heap, as [`end`](Session::end) and [`EndedSession::stop`] do. The history of the ended
+    /// heap is the one so far, then entries of the collector and runs of the finalisers that waited, the end of the trace, and
+    /// maybe more of the collector's.
     pub fn stop(self) -> Ended
         ensures sizes { result.sizes ≡ sizes_in self.config }
         ensures ends { EndsAfter (sizes_in self.config) self.front result.history }
         ensures stops { self.config.finals ≡ 0 → StopsAfter (sizes_in self.config) self.front result.history }
     {
-        let Session { heap, run, room } = self;
-        let _limits = heap.config();
-        let Some(run) = run else { unreachable!() };
-        let mut domains = room;
-        let mut run = come_back(&heap, run, &mut domains);
-        run.close();
-        end(&heap, &mut run);
-        domains.push_reserved(run.into_domain());
-        heap.stop(domains)
+        self.shows_legal();
+        self.end().stop()
     }
 }

@@ -1,6 +1,7 @@
 //! The search: a stack of states that are to be looked at, and a set of those that were seen.
 use crate::search::collect::{Next, add_queued, add_wished};
 use crate::search::lines::{Kind, Line};
+use crate::search::near::{count_told, finish};
 use crate::search::plain::{Link, PlainEntry, history};
 use crate::search::run::Run;
 use crate::search::state::{Key, State};
@@ -31,6 +32,13 @@ struct Task {
     link: usize,
 }
 
+/// A legal output, and a history that makes it.
+#[derive(Drop)]
+pub struct Nearest {
+    pub entries: Vec<Entry>,
+    pub text: Vec<u8>,
+}
+
 /// A search for a history that makes an output.
 #[derive(Drop)]
 pub struct Search {
@@ -39,6 +47,9 @@ pub struct Search {
     stack: Vec<Task>,
     seen: BTreeSet<Key>,
     links: Vec<Link>,
+    /// The state so far at which the most lines are printed, and their number.
+    furthest: Task,
+    told: usize,
     cut_short: bool,
     states: u64,
 }
@@ -109,6 +120,11 @@ impl Search {
             stack: Vec::new(alloc),
             seen: BTreeSet::new(alloc),
             links: Vec::new(alloc),
+            furthest: Task {
+                state: state.copy(alloc)?,
+                link: 0,
+            },
+            told: 0,
             states: 0,
         };
         search.links.push(Link {
@@ -183,6 +199,28 @@ impl Search {
         self.push_all(task.link, found)
     }
 
+    // Notes a state at which more lines are printed than at those before.
+    fn note(&mut self, task: &Task) -> Result<(), AllocError> {
+        let told = count_told(&task.state);
+        if told > self.told {
+            self.told = told;
+            self.furthest = Task {
+                state: task.state.copy(self.alloc)?,
+                link: task.link,
+            };
+        }
+        Ok(())
+    }
+
+    /// A legal output that has the most lines which the search has found a history of, and a history that makes it.
+    pub fn nearest(&mut self) -> Result<Nearest, AllocError> {
+        let mut next = Next::after(self.alloc, &self.furthest.state)?;
+        let text = finish(self.alloc, &self.run, &mut next)?;
+        let link = self.add_links(self.furthest.link, &next.entries)?;
+        let entries = history(self.alloc, &self.run, &self.links, link)?;
+        Ok(Nearest { entries, text })
+    }
+
     // Looks at one state. Answers the last link of the way where all domains have ended.
     fn look(&mut self, task: Task) -> Result<Option<usize>, AllocError> {
         let mut task = task;
@@ -190,6 +228,7 @@ impl Search {
         if is_over(&task.state) {
             return Ok(Some(task.link));
         }
+        self.note(&task)?;
         if self.seen.insert(task.state.key(self.alloc)?)? {
             self.push_collections(&task)?;
             self.push_all(task.link, found)?;

@@ -6,7 +6,7 @@ use crate::search::plain::PlainEntry;
 use crate::search::reach::known_to_others;
 use crate::search::run::{Run, Shape, is_allocation};
 use crate::search::section::{Printing, Turn};
-use crate::search::state::{DomainState, Held, State};
+use crate::search::state::{DomainState, Held, Registration, State};
 use model_core::command::Command;
 use model_core::reply::Reply;
 use std::alloc::{AllocError, Global};
@@ -101,8 +101,8 @@ fn tell(state: &mut State, d: usize, made: usize, lines: usize) {
     );
 }
 
-// The command at a place is made, and so many lines are printed.
-fn make_turn(
+/// The command at a place is made, and so many lines are printed.
+pub(crate) fn make_turn(
     next: &mut Next,
     d: usize,
     place: usize,
@@ -117,8 +117,8 @@ fn make_turn(
     })
 }
 
-// Whether a reply that isn't printed may be given.
-fn is_awaited(turn: Turn, reply: &Reply) -> bool {
+/// Whether a reply that isn't printed may be given.
+pub(crate) fn is_awaited(turn: Turn, reply: &Reply) -> bool {
     match turn.printing {
         Printing::Awaited(value) => *reply == Reply::Int(value),
         _ => true,
@@ -170,6 +170,22 @@ fn make_command(
     Ok(seen_where(seen))
 }
 
+/// A finaliser that was taken out of a domain's queue runs. Answers what its register held.
+pub(crate) fn make_run(
+    next: &mut Next,
+    d: usize,
+    entry: Registration,
+) -> Result<Held, AllocError> {
+    let let_go = match entry.register {
+        Some(register) => next.state.put(d, register, Held::Block(entry.block)),
+        None => Held::Nothing,
+    };
+    let made = next.state.domain_at(d).made;
+    tell(&mut next.state, d, made, 1);
+    next.make(PlainEntry::Ran { domain: d })?;
+    Ok(let_go)
+}
+
 // Runs the first finaliser of a queue.
 fn run_first(run: &Run, next: &mut Next, d: usize, line: Line) -> Result<Step, AllocError> {
     let Some(entry) = next.state.take_queued(d) else {
@@ -178,14 +194,8 @@ fn run_first(run: &Run, next: &mut Next, d: usize, line: Line) -> Result<Step, A
     if !prints(run.text(line), &run_reply(run, entry)) {
         return Ok(Step::Refused);
     }
-    let let_go = match entry.register {
-        Some(register) => next.state.put(d, register, Held::Block(entry.block)),
-        None => Held::Nothing,
-    };
+    let let_go = make_run(next, d, entry)?;
     let seen = has_let_go(&next.state, d, let_go) && run.is_counted(&next.state, d);
-    let made = next.state.domain_at(d).made;
-    tell(&mut next.state, d, made, 1);
-    next.make(PlainEntry::Ran { domain: d })?;
     Ok(seen_where(seen))
 }
 
@@ -257,14 +267,19 @@ fn make_full(alloc: Global, run: &Run, next: &mut Next, d: usize) -> Result<Step
     Ok(Step::Seen)
 }
 
+/// A domain's trace ends.
+pub(crate) fn make_end(next: &mut Next, d: usize) -> Result<(), AllocError> {
+    next.state.end(d);
+    next.make(PlainEntry::End { domain: d })
+}
+
 // Ends a domain's trace.
 fn end(run: &Run, next: &mut Next, d: usize) -> Result<Step, AllocError> {
     let more = run.next_command(&next.state, d).is_some();
     if next.state.domain_at(d).ended || more || next.state.count_queued(d) != 0 {
         return Ok(Step::Refused);
     }
-    next.state.end(d);
-    next.make(PlainEntry::End { domain: d })?;
+    make_end(next, d)?;
     Ok(seen_where(run.is_counted(&next.state, d)))
 }
 

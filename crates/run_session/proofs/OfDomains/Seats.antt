@@ -31,7 +31,7 @@ use Rattle.model_core.specs.Counts.Counts.{labels_given}
 use Rattle.heap_rule.specs.Limits.{sizes_in}
 use Rattle.heap_rule.specs.Rule.{state_of}
 use Rattle.heap_rule.specs.Token.{SharedHeap}
-use Rattle.run_seats.specs.Seating.{GoesAlong, SeatView}
+use Rattle.run_seats.specs.Seating.{GoesAlong, SeatView, ran_since}
 use Rattle.run_turns.proofs.OfSingly.Finalising.{finalised_on}
 use Rattle.weak_maps.proofs.CountLemmas.{not_refused}
 use Rattle.run_session.specs.Domains.Seated.{IsUnused, Stands}
@@ -187,19 +187,19 @@ pub record Polls (old mid new : SeatView) (r : Reply) : Type 0 where
   pub heap_then : mid.heap ≡ old.heap
   pub number_then : mid.number ≡ old.number
   pub along : GoesAlong old mid
-  pub performed : PerformedOn (sizes_in mid.heap.config) mid.number mid.front new.front Poll new.ran r
+  pub performed : PerformedOn (sizes_in mid.heap.config) mid.number mid.front new.front Poll (ran_since mid new) r
 
 module _ (old mid new : SeatView) (r : Reply) (polls : Polls old mid new r) where
   abbrev z : Sizes
   z = sizes_in old.heap.config
 
-  at_old : PerformedOn z old.number mid.front new.front Poll new.ran r
-  at_old = subst (λ (w : SharedHeap × ℕ). PerformedOn (sizes_in w.0.config) w.1 mid.front new.front Poll new.ran r) (λ i. (polls.heap_then i, polls.number_then i)) polls.performed
+  at_old : PerformedOn z old.number mid.front new.front Poll (ran_since mid new) r
+  at_old = subst (λ (w : SharedHeap × ℕ). PerformedOn (sizes_in w.0.config) w.1 mid.front new.front Poll (ran_since mid new) r) (λ i. (polls.heap_then i, polls.number_then i)) polls.performed
 
-  pub since : PerformedOn z old.number old.front new.front Poll (polls.along.more ++ new.ran) r
+  pub since : PerformedOn z old.number old.front new.front Poll (polls.along.more ++ ran_since mid new) r
   since = let p = at_old in record {
     before = p.before;
-    finalised = finalised_on z old.number old.front mid.front p.before polls.along.more new.ran polls.along.finalised p.finalised;
+    finalised = finalised_on z old.number old.front mid.front p.before polls.along.more (ran_since mid new) polls.along.finalised p.finalised;
     full = p.full;
     appends = p.appends;
     legal = p.legal;
@@ -207,7 +207,7 @@ module _ (old mid new : SeatView) (r : Reply) (polls : Polls old mid new r) wher
   }
 
   pub polled : Stands old → PerformedBy z old.number old.front new.front Poll DoneReply
-  polled was = go (performs z old.number old.front new.front Poll (polls.along.more ++ new.ran) r was.legal was.unregistered since)
+  polled was = go (performs z old.number old.front new.front Poll (polls.along.more ++ ran_since mid new) r was.legal was.unregistered since)
     where
       go : PerformedBy z old.number old.front new.front Poll r → PerformedBy z old.number old.front new.front Poll DoneReply
       go p =

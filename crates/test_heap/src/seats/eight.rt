@@ -24,20 +24,23 @@ const LEAD: u64 = 2;
 // So often a thread looks whether the others have come up. Then it goes on, so that a test comes to its end.
 const LOOKS: u32 = 100_000;
 
-// What a thread was told, and how many of the replies of finalisers that its seat tells are among it.
+// What a thread was told.
 #[derive(Drop)]
 struct Told {
     replies: Vec<Reply>,
-    ran: usize,
 }
 
 impl Told {
-    // Adds the replies of finalisers that have run since.
-    fn add_ran(&mut self, seat: &Seat) -> Result<(), AllocError> {
-        for reply in seat.ran().iter().skip(self.ran) {
-            self.replies.push(*reply)?;
+    // Takes the replies of finalisers that ran, and adds them.
+    fn add_ran(&mut self, seats: &Seats, seat: &mut Seat) -> Result<(), AllocError>
+        requires here { IsSeatOf seats.now seat.old }
+        ensures here { IsSeatOf seats.now seat.new }
+    {
+        'waiting: for _ in 0..seat.ran_len() {
+            if let Some(ran) = seat.take_ran() {
+                self.replies.push(ran)?;
+            }
         }
-        self.ran = seat.ran().len();
         Ok(())
     }
 }
@@ -60,12 +63,11 @@ fn make(
     requires here { IsSeatOf seats.now seat.old }
     ensures here { IsSeatOf seats.now seat.new }
 {
-    told.add_ran(seat)?;
+    told.add_ran(seats, seat)?;
     let Some(reply) = made(rt, seats, seat, command) else {
         return Ok(());
     };
-    told.ran = 0;
-    told.add_ran(seat)?;
+    told.add_ran(seats, seat)?;
     told.replies.push(reply)?;
     Ok(())
 }
@@ -127,7 +129,6 @@ fn play<R: Wait + Clock>(
 {
     let mut told = Told {
         replies: Vec::new(alloc),
-        ran: 0,
     };
     let mut seat = resting.resume(rt, seats);
     let number = seat.number();

@@ -82,11 +82,10 @@ fn finalisers_run_between_commands(rt: HostRuntime) -> Result<(), Fail> {
     let forget = Command::Forget { dst: 1 };
     same(&rt, made(&mut session, forget), Some(Reply::Done));
     made(&mut session, Command::FullMajor);
-    same(&rt, session.ran().len(), 0);
+    same(&rt, session.ran_len(), 0);
     let polled = made(&mut session, Command::Poll);
     same(&rt, polled, Some(Reply::Done));
-    let ran = session.ran();
-    same(&rt, ran.len(), 3);
+    same(&rt, session.ran_len(), 3);
     for turn in 0..3u32 {
         let number = 2 - turn;
         let fin = Reply::Fin {
@@ -96,8 +95,10 @@ fn finalisers_run_between_commands(rt: HostRuntime) -> Result<(), Fail> {
                 serial: number + 1,
             },
         };
-        same(&rt, ran.get(turn as usize).copied(), Some(fin));
+        same(&rt, session.ran(0), Some(fin));
+        same(&rt, session.take_ran(), Some(fin));
     }
+    same(&rt, session.take_ran(), None);
     same(&rt, session.finals_room(), 4);
     same(&rt, session.show(5), block(1));
     session.stop().shows_legal();

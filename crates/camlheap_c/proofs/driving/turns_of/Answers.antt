@@ -32,8 +32,8 @@ returns-then-told-ne-AGAIN-clause-goes_on c start command waits =
     let other : c.turn_code-told.result ≡ 0 → ⊥ = λ is. not_done c.await_turn-came.result.0 (sym c.turn_code-told.ensures ∙ is) in
     let came_to = c.await_turn-came.ensures.came in
     let which : (c.turn_code-told.result ≡ 1) ⊎ (c.turn_code-told.result ≡ 2) = waits_as c.await_turn-came.result.0 c.turn_code-told.result c.turn_code-told.ensures
-        (λ done. hungry_waits_not c.turns.run.heap c.turns.run.heap start command c.turns.run.run c.await_turn-came.new.self.run still (subst (λ (x : Came). CameTo c.turns.run.heap c.turns.run.run c.await_turn-came.new.self.run x) done came_to))
-        (λ over. (c.await_turn-came.ensures.ended over).1 still.more) in
+    (λ done. hungry_waits_not c.turns.run.heap c.turns.run.heap start command c.turns.run.run c.await_turn-came.new.self.run still (subst (λ (x : Came). CameTo c.turns.run.heap c.turns.run.run c.await_turn-came.new.self.run x) done came_to))
+    (λ over. (c.await_turn-came.ensures.ended over).1 still.more) in
     subst (λ (r : CamlheapReply). GoesOn start command c.args.run.now c.await_turn-came.new.self c.args.reply.now r c.turn_code-told.result) (sym c.turns.invariant.unread)
     (not_made start command c.args.run.now c.await_turn-came.new.self c.args.reply.now c.turn_code-told.result other which heap (subst (λ (h : SharedHeap). Awaits h start command c.await_turn-came.new.self.run) c.turns.invariant.heap still))
 

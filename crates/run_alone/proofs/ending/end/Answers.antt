@@ -1,7 +1,7 @@
 use Rattle.std.proofs.Common.{◌≡◌, ◌∙◌, ◌≤◌, Bool, List, length, arith, ap, false, sym, subst}
 use Rattle.model_core.specs.declared.command.Command as model
 use Rattle.run_alone.specs.Idling.{IdleAnswers}
-use Rattle.run_alone.proofs.Closing.{closes, closes_fewer, idles_calm}
+use Rattle.run_alone.proofs.Closing.{closes, closes_adds, closes_fewer, idles_calm}
 use Rattle.run_alone.proofs.ending.end.Goals as goal
 
 pub returns-then-has_ended-clause-over : goal.returns-then-has_ended-clause-over
@@ -9,6 +9,11 @@ returns-then-has_ended-clause-over c = λ front idle.
     let i = c.turns.invariant in
     subst (λ (b : Bool). IdleAnswers c.args.heap.now front c.go_on.new.run b) (sym c.has_ended.ensures ∙ c.if-has_ended.true)
     (idles_calm c.args.heap.now front c.turns.run c.go_on.new.run c.go_on.result (i.5 front idle) c.go_on.ensures.here c.shows_faithful.ensures c.go_on.ensures.answer)
+
+pub returns-then-has_ended-clause-ran : goal.returns-then-has_ended-clause-ran
+returns-then-has_ended-clause-ran c =
+    let i = c.turns.invariant in
+    closes_adds c.args.heap.now c.args.run.now c.turns.run c.go_on.new.run c.go_on.result i.0 i.1 i.4 i.6 c.go_on.ensures.answer
 
 pub turns-smaller : goal.turns-smaller
 turns-smaller c =
@@ -28,4 +33,5 @@ turns-preserved c =
       running,
       λ front idle. subst (λ (b : Bool). IdleAnswers c.args.heap.now front c.go_on.new.run b) running
           (idles_calm c.args.heap.now front c.turns.run c.go_on.new.run c.go_on.result (i.5 front idle) c.go_on.ensures.here c.shows_faithful.ensures c.go_on.ensures.answer),
+      closes_adds c.args.heap.now c.args.run.now c.turns.run c.go_on.new.run c.go_on.result i.0 i.1 i.4 i.6 c.go_on.ensures.answer,
     )

@@ -1,11 +1,12 @@
 use Rattle.std.proofs.Common.{◌∙◌, Option, ap, subst, sym}
 use Rattle.model_core.specs.declared.reply.Reply.{Reply}
-use Rattle.run_turns.specs.Runs.{IsRun, NowAnswers, RunView}
+use Rattle.run_turns.specs.Runs.{AddsRan, IsRun, NowAnswers, RunView}
+use Rattle.heap_rule.specs.Limits.{sizes_in}
 use Rattle.run_turns.specs.Singly.Driving.{Awaits}
 use Rattle.run_turns.proofs.OfSingly.Begun.{now_answered}
 use Rattle.run_alone.specs.Lone.{IsLone}
 use Rattle.run_alone.specs.Paces.{last_of}
-use Rattle.run_alone.proofs.Handed.{arrivals_stay, made_arrivals, made_lone, made_last, made_unasked, off_awaits, off_last_any, off_lone, off_may}
+use Rattle.run_alone.proofs.Handed.{arrivals_stay, made_adds, made_arrivals, off_adds, made_lone, made_last, made_unasked, off_awaits, off_last_any, off_lone, off_may}
 use Rattle.run_alone.proofs.handing.hand_in.Goals as goal
 
 pub returns-in-Some-clause-made : goal.returns-in-Some-clause-made
@@ -56,3 +57,12 @@ pub returns-clause-arrivals : goal.returns-clause-arrivals
 returns-clause-arrivals c = ap (λ (r : RunView). r.token.view.own.arrivals) c.submit.ensures
     ∙ arrivals_stay c.args.heap.now c.args.run.now c.at_once.new.run c.args.command
     (subst (λ (o : Option Reply). NowAnswers c.args.heap.now c.args.run.now c.at_once.new.run c.args.command o) c.in_default.is c.at_once.ensures.answer)
+
+pub returns-in-Some-clause-ran : goal.returns-in-Some-clause-ran
+returns-in-Some-clause-ran c = made_adds c.args.heap.now c.args.run.now c.at_once.new.run c.args.command c.in-Some.reply
+    (subst (λ (o : Option Reply). NowAnswers c.args.heap.now c.args.run.now c.at_once.new.run c.args.command o) c.in-Some.is c.at_once.ensures.answer) c.requires.here
+
+pub returns-clause-ran : goal.returns-clause-ran
+returns-clause-ran c = subst (λ (r : RunView). AddsRan (sizes_in c.args.heap.now.config) c.args.run.now r) (sym c.submit.ensures)
+    (off_adds c.args.heap.now c.args.run.now c.at_once.new.run c.args.command c.requires.here c.at_once.ensures.here c.requires.may
+    (subst (λ (o : Option Reply). NowAnswers c.args.heap.now c.args.run.now c.at_once.new.run c.args.command o) c.in_default.is c.at_once.ensures.answer))

@@ -14,4 +14,7 @@ returns-clause-answered c = λ start command w.
     let h = c.args.heap.now in
     let b = c.come_back-run.ensures.back in
     subst (λ (o : Option Reply). AwaitAnswers h start command c.make-run.result o) (sym c.answer.ensures.answer ∙ c.in-Some.is)
-    (tells_on h c.args.run c.come_back-run.result c.make-run.result b.commands b.next b.tells c.make-run.ensures.tells start command w)
+    ((tells_on h c.args.run c.come_back-run.result c.make-run.result b.commands b.next b.tells c.make-run.ensures.tells).answers start command w)
+
+pub returns-clause-ran : goal.returns-clause-ran
+returns-clause-ran c = let b = c.come_back-run.ensures.back in (tells_on c.args.heap.now c.args.run c.come_back-run.result c.make-run.result b.commands b.next b.tells c.make-run.ensures.tells).ran

@@ -1,17 +1,15 @@
 -- `is_full` reads whether there is a domain in a handle.
-use Rattle.std.proofs.Common.{◌≡◌, ℕ, Bool, List, [], ◌∷◌, refl}
+use Rattle.std.proofs.Common.{ℕ, List, [], ◌∷◌, refl}
 use base.Fraction.{full_share}
 use mir.Syntax.{named}
 use mir.Val.{Val, vptr, vbool}
-use base.Fml.{GName, Lft, Share, ftrue, flft}
+use base.Fml.{Lft, Share, ftrue, flft}
 use base.Logic.{SProp}
-use types.Kit.{‵, ◌⊛◌, raw, ◌$◌, ◌∵◌, !, qed, move, keep, drop, split, join, fsplit, fsplit3, fjoin, fjoin3, suffices, frame, rewrite, feq_i, done}
+use types.Kit.{‵, ◌⊛◌, raw, ◌$◌, ◌∵◌, !, qed, move, keep, split, join, fsplit, fsplit3, fjoin, fjoin3, suffices, frame, rewrite, feq_i, done}
 use types.Run.{stop, fld, load, of_opd, returns, enter}
 use types.ByLocal.{alloc_all, pass_all, free_all, look_at, through, sets}
 use types.Part.{sub, whole, look_in}
 use contract.Running.{tables}
-use denote.Builtin.{RefMutOf}
-use denote.Exit.{yes}
 use denote.Memory.{cell_at}
 use denote.RattleType.{RattleType, owns}
 use denote.RawPtr.{ptr_val}

@@ -16,13 +16,13 @@ returns-clause-collects g c =
     let old : HandlesView = c.args.self.now in
     let mid : HandlesView = c.perform.new.self in
     let new : HandlesView = c.perform-2.new.self in
-    let one : Makes (FullMajor ∷ []) old mid = record { made_are = performed_commands (sizes_in old.seat.heap.config) old.seat.number old.seat.front mid.seat.front FullMajor mid.seat.ran c.perform.result c.perform.ensures.performed; settles = c.perform.ensures.settles } in
-    let two : Makes (Poll ∷ []) mid new = record { made_are = performed_commands (sizes_in mid.seat.heap.config) mid.seat.number mid.seat.front new.seat.front Poll new.seat.ran c.perform-2.result c.perform-2.ensures.performed; settles = c.perform-2.ensures.settles } in
+    let one : Makes (FullMajor ∷ []) old mid = record { made_are = performed_commands (sizes_in old.seat.heap.config) old.seat.number old.seat.front mid.seat.front FullMajor c.perform.ensures.performed.ran c.perform.result c.perform.ensures.performed.performed; settles = c.perform.ensures.settles } in
+    let two : Makes (Poll ∷ []) mid new = record { made_are = performed_commands (sizes_in mid.seat.heap.config) mid.seat.number mid.seat.front new.seat.front Poll c.perform-2.ensures.performed.ran c.perform-2.result c.perform-2.ensures.performed.performed; settles = c.perform-2.ensures.settles } in
     makes_both old mid new (FullMajor ∷ []) (Poll ∷ []) c.perform.ensures.seat c.perform-2.ensures.seat one two
 
 pub returns-clause-held : goal.returns-clause-held
 returns-clause-held g c =
-    open_held c.args.self.now c.perform.new.self c.perform-2.new.self c.perform.ensures.seat c.perform-2.ensures.seat c.perform.new.self.seat.ran c.perform-2.new.self.seat.ran c.perform.result c.perform-2.result c.perform.ensures.performed c.perform-2.ensures.performed c.is_kept.ensures
+    open_held c.args.self.now c.perform.new.self c.perform-2.new.self c.perform.ensures.seat c.perform-2.ensures.seat c.perform.ensures.performed.ran c.perform-2.ensures.performed.ran c.perform.result c.perform-2.result c.perform.ensures.performed.performed c.perform-2.ensures.performed.performed c.is_kept.ensures
 
 pub returns-clause-legal : goal.returns-clause-legal
-returns-clause-legal g c = subst (λ (v : SeatView). Legal (sizes_in v.heap.config) c.perform-2.new.self.seat.front) (sym c.perform-2.ensures.seat) c.perform-2.ensures.performed.legal
+returns-clause-legal g c = subst (λ (v : SeatView). Legal (sizes_in v.heap.config) c.perform-2.new.self.seat.front) (sym c.perform-2.ensures.seat) c.perform-2.ensures.performed.performed.legal

@@ -2,11 +2,10 @@ use Rattle.std.proofs.Common.{ℕ, ◌<◌, ap, subst, sym, ◌≡◌, ◌≤◌
 use Rattle.model_core.specs.Counts.Counts.{ephemerons_given, labels_given}
 use Rattle.model_core.specs.History.{commands, replies}
 use Rattle.heap_rule.specs.Limits.{sizes_in}
-use Rattle.run_turns.specs.Handed.{PerformedOn}
 use Rattle.run_turns.specs.Tries.{registrations_of}
 use Rattle.run_turns.proofs.Handed.{performed_commands, performed_replies}
 use Rattle.run_session.specs.Driving.{session_of}
-use Rattle.run_session.specs.Sessions.{SessionView, most_arrivals, most_spent}
+use Rattle.run_session.specs.Sessions.{PerformsIn, SessionView, most_arrivals, most_spent, ran_since}
 use Rattle.run_session.proofs.Driven.{makes_arrivals, makes_config, makes_finals, makes_labels, makes_performed, makes_rests, makes_room, may_arrive, may_submit}
 use Rattle.run_session.proofs.session.Session.perform.Goals as goal
 
@@ -20,7 +19,7 @@ pub returns-clause-performed : goal.returns-clause-performed
 returns-clause-performed c =
     let h = c.self.inside.heap in
     let p = c.perform_on.new.run in
-    subst (λ (v : SessionView). PerformedOn (sizes_in v.config) 0 v.front (session_of h.config p).front c.args.command (session_of h.config p).ran c.perform_on.result) c.self.view_is
+    subst (λ (v : SessionView). PerformsIn v (session_of h.config p) c.args.command c.perform_on.result) c.self.view_is
     (makes_performed h c.self.inside.run p c.args.command c.perform_on.result c.config-limits.ensures.limits c.self.invariant.0 c.perform_on.ensures.makes)
 
 pub returns-clause-commands : goal.returns-clause-commands
@@ -29,15 +28,15 @@ returns-clause-commands c =
     let old = session_of h.config c.self.inside.run in
     let new = session_of h.config c.perform_on.new.run in
     subst (λ (v : SessionView). commands new.front 0 ≡ commands v.front 0 ++ c.args.command ∷ []) c.self.view_is
-    (performed_commands (sizes_in old.config) 0 old.front new.front c.args.command new.ran c.perform_on.result (makes_performed h c.self.inside.run c.perform_on.new.run c.args.command c.perform_on.result c.config-limits.ensures.limits c.self.invariant.0 c.perform_on.ensures.makes))
+    (performed_commands (sizes_in old.config) 0 old.front new.front c.args.command (ran_since old new) c.perform_on.result (makes_performed h c.self.inside.run c.perform_on.new.run c.args.command c.perform_on.result c.config-limits.ensures.limits c.self.invariant.0 c.perform_on.ensures.makes).performed)
 
 pub returns-clause-replies : goal.returns-clause-replies
 returns-clause-replies c =
     let h = c.self.inside.heap in
     let old = session_of h.config c.self.inside.run in
     let new = session_of h.config c.perform_on.new.run in
-    subst (λ (v : SessionView). replies (sizes_in v.config) new.front 0 ≡ replies (sizes_in v.config) v.front 0 ++ (new.ran ++ c.perform_on.result ∷ [])) c.self.view_is
-    (performed_replies (sizes_in old.config) 0 old.front new.front c.args.command new.ran c.perform_on.result (makes_performed h c.self.inside.run c.perform_on.new.run c.args.command c.perform_on.result c.config-limits.ensures.limits c.self.invariant.0 c.perform_on.ensures.makes))
+    subst (λ (v : SessionView). replies (sizes_in v.config) new.front 0 ≡ replies (sizes_in v.config) v.front 0 ++ (ran_since v new ++ c.perform_on.result ∷ [])) c.self.view_is
+    (performed_replies (sizes_in old.config) 0 old.front new.front c.args.command (ran_since old new) c.perform_on.result (makes_performed h c.self.inside.run c.perform_on.new.run c.args.command c.perform_on.result c.config-limits.ensures.limits c.self.invariant.0 c.perform_on.ensures.makes).performed)
 
 pub returns-clause-config : goal.returns-clause-config
 returns-clause-config c = subst (λ (v : SessionView). (session_of c.self.inside.heap.config c.perform_on.new.run).config ≡ v.config) c.self.view_is
@@ -54,7 +53,7 @@ returns-clause-room c = subst (λ (v : SessionView). v.room ≤ (session_of c.se
 pub returns-clause-finals : goal.returns-clause-finals
 returns-clause-finals c =
     let new = session_of c.self.inside.heap.config c.perform_on.new.run in
-    subst (λ (v : SessionView). v.finals + length new.ran ≤ new.finals + registrations_of c.args.command) c.self.view_is
+    subst (λ (v : SessionView). v.finals ≤ new.finals + registrations_of c.args.command) c.self.view_is
     (makes_finals c.self.inside.heap c.self.inside.run c.perform_on.new.run c.args.command c.perform_on.result c.config-limits.ensures.limits c.self.invariant.0 c.perform_on.ensures.makes)
 
 pub returns-clause-arrivals : goal.returns-clause-arrivals

@@ -14,8 +14,8 @@ invariant_of-self c =
     let may : MayPerform old c.args.command = subst (λ (v : SessionView). MayPerform v c.args.command) (sym c.self.view_is) c.requires.may in
     let none = c.self.invariant in (
       subst (λ (k : Config). k.finals ≡ 0) (sym p.config) none.0,
-      no_run old new c.args.command c.perform-reply.result c.shows_legal.ensures.limits c.shows_legal.ensures.alone none.0 c.shows_legal.ensures.finals c.shows_legal-2.ensures.finals p.config may p.finals p.performed,
-      unregistered old new c.args.command c.perform-reply.result c.shows_legal.ensures.limits c.shows_legal.ensures.alone none.0 c.shows_legal.ensures.finals c.shows_legal-2.ensures.finals p.config may p.finals p.performed none.2,
+      no_run old new c.args.command c.perform-reply.result c.shows_legal.ensures.limits c.shows_legal.ensures.alone none.0 c.shows_legal.ensures.finals c.shows_legal-2.ensures.finals p.config may p.performed,
+      unregistered old new c.args.command c.perform-reply.result c.shows_legal.ensures.limits c.shows_legal.ensures.alone none.0 c.shows_legal.ensures.finals c.shows_legal-2.ensures.finals p.config may p.performed none.2,
     )
 
 pub returns-clause-performed : goal.returns-clause-performed
@@ -25,4 +25,4 @@ returns-clause-performed c =
     let p = c.perform-reply.ensures in
     let may : MayPerform old c.args.command = subst (λ (v : SessionView). MayPerform v c.args.command) (sym c.self.view_is) c.requires.may in
     subst (λ (v : SessionView). Performed (sizes_in v.config) v.front new.front c.args.command c.perform-reply.result) c.self.view_is
-    (plainly old new c.args.command c.perform-reply.result c.shows_legal.ensures.limits c.shows_legal.ensures.alone c.self.invariant.0 c.shows_legal.ensures.finals c.shows_legal-2.ensures.finals p.config may p.finals p.performed)
+    (plainly old new c.args.command c.perform-reply.result c.shows_legal.ensures.limits c.shows_legal.ensures.alone c.self.invariant.0 c.shows_legal.ensures.finals c.shows_legal-2.ensures.finals p.config may p.performed)

@@ -1,0 +1,4 @@
+pub mod Explains
+pub mod Laws
+pub mod Profiles
+pub mod Shown
