@@ -1,5 +1,6 @@
 -- What a player was told stays what its front has, whatever it does next.
-use Rattle.std.proofs.Common.{◌≡◌, ◌≢◌, ◌∙◌, ℕ, ◌+◌, ◌<◌, List, [], ◌∷◌, ◌++◌, length, zero, suc, drop, Option, Some, None, slice_get, refl, sym, ap, subst, append-nil, append_assoc, arith}
+use Rattle.std.specs.Prelude.{IfErr, IfOk, IfSome}
+use Rattle.std.proofs.Common.{◌≡◌, ◌≢◌, ◌∙◌, ℕ, ◌+◌, ◌<◌, ◌≤◌, List, [], ◌∷◌, ◌++◌, length, zero, suc, drop, Option, Some, None, slice_get, Result, Ok, Err, refl, sym, ap, subst, append-nil, append_assoc, arith}
 use Rattle.model_core.specs.declared.command.Command as model
 use Rattle.model_core.specs.declared.entry.Entry.{Entry}
 use Rattle.model_core.specs.declared.reply.Reply.{Reply}
@@ -13,12 +14,14 @@ use Rattle.run_turns.specs.Kept.{answers, finalised}
 use Rattle.run_turns.specs.Runs.{AddsRan, GoesOn, HasLooked, IsHandedIn, RunView, Stretches, answer_of, first_reply, ran_with, said_with, wanting}
 use Rattle.run_turns.specs.Singly.Driving.{Answered, Awaits}
 use Rattle.run_turns.proofs.Adding.{finalised_adds, performed_adds, taken_first}
-use Rattle.run_seats.specs.Shared.Sharing.{MayClose}
+use Rattle.run_seats.specs.Shared.Sharing.{MayClose, SharedView, closed_of, taken_of}
 use Rattle.run_ledgers.specs.Ledgers.{Adds, IsLedger, Ledger, Tells, TurnAdds, all_ran, made_behind, no_ledger, one_made}
 use Rattle.run_ledgers.specs.Ledgers.Tells.{TellsNothing, TellsRan, TellsReply}
 use Rattle.run_ledgers.proofs.Adding.{commands_add, finalisers_add, ledgers_follow, turns_add}
-use Rattle.run_plays.specs.Playing.{IsAt, IsPlayed, PlayerView}
-use Rattle.run_plays.specs.Plays.{IsNew}
+use Rattle.run_plays.specs.declared.player.Called.{Called}
+use Rattle.run_plays.specs.declared.player.Called.TheVariants.{Made, Waits, Refused}
+use Rattle.run_plays.specs.Playing.{Awaited, Calls, IsAt, IsPlayed, PlayerView, Takes}
+use Rattle.run_plays.specs.Plays.{IsNew, seat_of}
 
 -- the player with another run, and with one more command in its log
 abbrev pub with_run : PlayerView → RunView → PlayerView
@@ -110,16 +113,16 @@ none_of : (s : Supply) (replies : List Reply) → s ≡ Open → replies ≡ [] 
 none_of s replies more are = ap (λ (t : Supply). first_reply t replies) more ∙ ap (λ (rs : List Reply). slice_get rs 0) are
 
 module _ (p : PlayerView) (new : RunView) (is : IsPlayed p) (g : GoesOn p.shared.run new) where
-  z : Sizes
+  abbrev z : Sizes
   z = sizes_in p.shared.heap.config
 
-  d : ℕ
+  abbrev d : ℕ
   d = p.shared.run.token.view.own.number
 
-  before : List Entry
+  abbrev before : List Entry
   before = p.shared.run.token.view.seen.front
 
-  after : List Entry
+  abbrev after : List Entry
   after = new.token.view.seen.front
 
   handed : IsHandedIn new.supply
@@ -127,20 +130,20 @@ module _ (p : PlayerView) (new : RunView) (is : IsPlayed p) (g : GoesOn p.shared
 
   -- the log where the turn made no command
   calm : (ran : List Reply) → new.ran ≡ p.shared.run.ran ++ ran → Adds z d before after (all_ran ran) → IsLedger z new.token.view.own.number after (record { made = p.made; ran = p.told ++ new.ran })
-  calm ran waits adds = grown_none z d new.token.view.own.number before after p.made p.told p.shared.run.ran new.ran ran g.number waits is.ledger adds
+  calm ran behind adds = grown_none z d new.token.view.own.number before after p.made p.told p.shared.run.ran new.ran ran g.number behind is.ledger adds
 
   -- a turn that made none where none is awaited
   idle : p.awaits ≡ None → IsAt None p.shared.run → (ran : List Reply) → new.next ≡ p.shared.run.next → new.ran ≡ p.shared.run.ran ++ ran → Adds z d before after (all_ran ran) → TurnCame p new
-  idle none at ran next waits adds = TurnIdle none (record {
-    ledger = calm ran waits adds;
+  idle none at ran next behind adds = TurnIdle none (record {
+    ledger = calm ran behind adds;
     handed = handed;
     at = subst (λ (w : Option model.Command). IsAt w new) (sym none) (next ∙ (at ∙ sym (ap (λ (cs : List model.Command). length cs) g.commands)));
   })
 
   -- and where one is awaited
   still : (c : model.Command) → p.awaits ≡ Some c → IsAt (Some c) p.shared.run → (ran : List Reply) → new.next ≡ p.shared.run.next → new.replies ≡ p.shared.run.replies → new.ran ≡ p.shared.run.ran ++ ran → Adds z d before after (all_ran ran) → TurnCame p new
-  still c some at ran next replies waits adds = TurnStill c some (none_of new.supply new.replies (g.supply ∙ at.0) (replies ∙ at.1.1.1)) (record {
-    ledger = calm ran waits adds;
+  still c some at ran next replies behind adds = TurnStill c some (none_of new.supply new.replies (g.supply ∙ at.0) (replies ∙ at.1.1.1)) (record {
+    ledger = calm ran behind adds;
     handed = handed;
     at = subst (λ (w : Option model.Command). IsAt w new) (sym some) (g.supply ∙ at.0, (g.commands ∙ at.1.0, (next ∙ at.1.1.0, replies ∙ at.1.1.1)));
   })
@@ -207,3 +210,94 @@ begins s is = record {
   handed = open_handed s.run.supply is.more;
   at = is.next ∙ sym (ap (λ (cs : List model.Command). length cs) is.commands);
 }
+
+-- the same of a player whose heap and log are told by equations
+told_as : (p : PlayerView) (s : SharedView) (made log : List (model.Command × Reply)) (awaits : Option model.Command) → s.heap ≡ p.shared.heap → log ≡ made → IsPlayed (record p { shared = record p.shared { run = s.run }; made = made; awaits = awaits }) → IsPlayed (record p { shared = s; made = log; awaits = awaits })
+told_as p s made log awaits heap is played = subst (λ (w : SharedHeap × List (model.Command × Reply)). IsPlayed (record { shared = record { heap = w.0; run = s.run }; made = w.1; told = p.told; awaits = awaits })) (λ i. (sym heap i, sym is i)) played
+
+pub called_as : (p : PlayerView) (c : model.Command) (a : Reply) (s : SharedView) (log : List (model.Command × Reply)) → IsPlayed p → s.heap ≡ p.shared.heap → log ≡ p.made ++ (c, a) ∷ [] → Answered p.shared.heap p.shared.run.token.view c a s.run → AddsRan (sizes_in p.shared.heap.config) p.shared.run s.run → IsPlayed (record { shared = s; made = log; told = p.told; awaits = None })
+called_as p c a s log is heap same made adds = told_as p s (p.made ++ (c, a) ∷ []) log None heap same (called p c a s.run is made adds)
+
+pub waits_as : (p : PlayerView) (c : model.Command) (s : SharedView) (log : List (model.Command × Reply)) → IsPlayed p → s.heap ≡ p.shared.heap → log ≡ p.made → Awaits p.shared.heap p.shared.run.token.view c s.run → AddsRan (sizes_in p.shared.heap.config) p.shared.run s.run → IsPlayed (record { shared = s; made = log; told = p.told; awaits = Some c })
+waits_as p c s log is heap same w adds = told_as p s p.made log (Some c) heap same (waits p c s.run is w adds)
+
+-- where no command was awaited
+pub turned_idle : (p : PlayerView) (s : SharedView) (log : List (model.Command × Reply)) → IsPlayed p → s.heap ≡ p.shared.heap → log ≡ p.made → GoesOn p.shared.run s.run → Stretches (sizes_in p.shared.heap.config) p.shared.run s.run → p.awaits ≡ None → IsPlayed (record { shared = s; made = log; told = p.told; awaits = p.awaits })
+turned_idle p s log is heap same g st none = by (turned p s.run is g st)
+  where
+    by : TurnCame p s.run → IsPlayed (record { shared = s; made = log; told = p.told; awaits = p.awaits })
+    by (TurnMade c a some answer played) = absurd (let both = sym some ∙ none in cc)
+    by (TurnStill c some answer played) = absurd (let both = sym some ∙ none in cc)
+    by (TurnIdle is_none played) = told_as p s p.made log p.awaits heap same played
+
+-- where it is awaited still
+pub turned_still : (p : PlayerView) (c : model.Command) (s : SharedView) (log : List (model.Command × Reply)) → IsPlayed p → s.heap ≡ p.shared.heap → log ≡ p.made → GoesOn p.shared.run s.run → Stretches (sizes_in p.shared.heap.config) p.shared.run s.run → p.awaits ≡ Some c → None ≡ answer_of s.run → IsPlayed (record { shared = s; made = log; told = p.told; awaits = p.awaits })
+turned_still p c s log is heap same g st awaited none = by (turned p s.run is g st)
+  where
+    by : TurnCame p s.run → IsPlayed (record { shared = s; made = log; told = p.told; awaits = p.awaits })
+    by (TurnMade b a some answer played) = absurd (let both = none ∙ answer in cc)
+    by (TurnStill b some answer played) = told_as p s p.made log p.awaits heap same played
+    by (TurnIdle is_none played) = absurd (let both = sym awaited ∙ is_none in cc)
+
+-- and where it was made
+pub turned_made : (p : PlayerView) (c : model.Command) (a : Reply) (s : SharedView) (log : List (model.Command × Reply)) → IsPlayed p → s.heap ≡ p.shared.heap → log ≡ p.made ++ (c, a) ∷ [] → GoesOn p.shared.run s.run → Stretches (sizes_in p.shared.heap.config) p.shared.run s.run → p.awaits ≡ Some c → Some a ≡ answer_of s.run → IsPlayed (record { shared = s; made = log; told = p.told; awaits = None })
+turned_made p c a s log is heap same g st awaited answered = by (turned p s.run is g st)
+  where
+    by : TurnCame p s.run → IsPlayed (record { shared = s; made = log; told = p.told; awaits = None })
+    by (TurnMade b r some answer played) =
+        let commands_are : Some b ≡ Some c = sym some ∙ awaited in
+        let replies_are : Some r ≡ Some a = sym answer ∙ sym answered in
+        let command : b ≡ c = cc in
+        let reply : r ≡ a = cc in
+        told_as p s (p.made ++ (c, a) ∷ []) log None heap same (subst (λ (w : model.Command × Reply). IsPlayed (noting p s.run w.0 w.1)) (λ i. (command i, reply i)) played)
+    by (TurnStill b some answer played) = absurd (let both = answered ∙ answer in cc)
+    by (TurnIdle is_none played) = absurd (let both = sym awaited ∙ is_none in cc)
+
+pub looked_as : (p : PlayerView) (s : SharedView) → IsPlayed p → s.heap ≡ p.shared.heap → HasLooked p.shared.run s.run → IsPlayed (record p { shared = s })
+looked_as p s is heap l = told_as p s p.made p.made p.awaits heap refl (looked p s.run is l)
+
+pub shut_as : (p : PlayerView) (s : SharedView) → IsPlayed p → MayClose p.shared → s ≡ closed_of p.shared → IsPlayed (record p { shared = s })
+shut_as p s is may closed = subst (λ (x : SharedView). IsPlayed (record p { shared = x })) (sym closed) (shut p is may)
+
+pub taken_as : (p : PlayerView) (a : Reply) (s : SharedView) (told : List Reply) → IsPlayed p → Some a ≡ slice_get p.shared.run.ran 0 → s ≡ taken_of p.shared → told ≡ p.told ++ a ∷ [] → IsPlayed (record p { shared = s; told = told })
+taken_as p a s told is first same log = subst (λ (w : SharedView × List Reply). IsPlayed (record p { shared = w.0; told = w.1 })) (λ i. (sym same i, sym log i)) (taken p a is first)
+
+-- where none waits nothing is taken
+pub none_taken : (s t : SharedView) → t ≡ taken_of s → None ≡ slice_get s.run.ran 0 → (t ≡ s) × (s.run.ran ≡ [])
+none_taken s t same none = let empty : s.run.ran ≡ [] = no_first s.run.ran none in (same ∙ λ i. record s { run = record s.run { ran = (ap (λ (rs : List Reply). drop 1 rs) empty ∙ sym empty) i } }, empty)
+  where
+    no_first : (rs : List Reply) → None ≡ slice_get rs 0 → rs ≡ []
+    no_first [] is = refl
+    no_first (r ∷ rs) is = cc
+
+pub shown_as : (p : PlayerView) (s : SharedView) (shown : Option Reply) → IsPlayed p → s.heap ≡ p.shared.heap → IfSome shown (λ _. HasLooked p.shared.run s.run) → (shown ≡ None → s ≡ p.shared) → IsPlayed (record p { shared = s })
+shown_as p s (Some a) is heap looked same = looked_as p s is heap looked
+shown_as p s None is heap looked same = subst (λ (x : SharedView). IsPlayed (record p { shared = x })) (sym (same refl)) is
+
+pub closed_as : {A E : Type 0} (p : PlayerView) (s : SharedView) (r : Result A E) → IsPlayed p → IfOk r (λ _. MayClose p.shared) → IfOk r (λ _. s ≡ closed_of p.shared) → IfErr r (λ _. s ≡ p.shared) → IsPlayed (record p { shared = s })
+closed_as p s (Ok u) is may closed same = shut_as p s is may closed
+closed_as p s (Err why) is may closed same = subst (λ (x : SharedView). IsPlayed (record p { shared = x })) (sym same) is
+
+-- the seat of a player stays whatever a call comes to
+pub called_seat : {E : Type 0} (c : model.Command) (old new : PlayerView) (r : Result Called E) → IfOk r (Calls c old new) → IfErr r (λ _. new ≡ old) → seat_of new ≡ seat_of old
+called_seat c old new (Ok (Made a)) is same = λ i. (is.heap i, is.number i)
+called_seat c old new (Ok Waits) is same = λ i. (is.0.heap i, is.0.number i)
+called_seat c old new (Ok (Refused why)) is same = ap seat_of is.0
+called_seat c old new (Err e) is same = ap seat_of same
+
+pub awaited_seat : (old new : PlayerView) (r : Option Reply) → Awaited old new r → seat_of new ≡ seat_of old
+awaited_seat old new (Some a) is = λ i. (is.1.1.heap i, is.1.1.number i)
+awaited_seat old new None is = λ i. (is.0.heap i, is.0.number i)
+
+pub takes_seat : (old new : PlayerView) (r : Option Reply) → Takes old new r → seat_of new ≡ seat_of old
+takes_seat old new (Some a) is = ap seat_of is.1
+takes_seat old new None is = ap seat_of is.0
+
+-- and one finaliser fewer waits, if there was one
+pub takes_fewer : (old new : PlayerView) (r : Option Reply) (n i : ℕ) → Takes old new r → length old.shared.run.ran + i ≤ n → i < n → length new.shared.run.ran + (i + 1) ≤ n
+takes_fewer old new (Some a) n i is few more = let some = ap (λ (p : PlayerView). length p.shared.run.ran) is.1 in let fewer = drop_fewer old.shared.run.ran a is.0 in omega (arith, few, some, fewer)
+  where
+    drop_fewer : (rs : List Reply) (r : Reply) → Some r ≡ slice_get rs 0 → length (drop 1 rs) + 1 ≡ length rs
+    drop_fewer [] r first = cc
+    drop_fewer (x ∷ xs) r first = let n : ℕ = length xs in omega arith
+takes_fewer old new None n i is few more = let none = ap (λ (rs : List Reply). length rs) (ap (λ (p : PlayerView). p.shared.run.ran) is.0 ∙ is.1) in omega (arith, few, more, none)
