@@ -40,7 +40,6 @@ let ephemeron domain serial keys =
   block
 
 let keys_of block : Obj.Ephemeron.t = Obj.obj (Obj.field block 1)
-let shared = plain 0 0 16
 
 type domain = {
   number : int;
@@ -54,17 +53,21 @@ type domain = {
 
 let says d (reply : reply) = Buffer.add_string d.out (reply ^ "\n")
 
-(* Puts a new block of so many words into a register. *)
-let give d dst words make =
-  d.serial <- d.serial + 1;
-  let block = make d.number d.serial in
-  d.registers.(dst) <- block;
+(* Notes a block of so many words, where blocks are noted. *)
+let note d words block =
   Option.iter
     (fun made ->
       let cell = Weak.create 1 in
       Weak.set cell 0 (Some block);
       d.made <- Some ((cell, words) :: made))
-    d.made;
+    d.made
+
+(* Puts a new block of so many words into a register. *)
+let give d dst words make =
+  d.serial <- d.serial + 1;
+  let block = make d.number d.serial in
+  d.registers.(dst) <- block;
+  note d words block;
   "blk " ^ label block
 
 let at_field d s i act : reply =
@@ -110,8 +113,8 @@ let live d : reply =
   | Some made ->
       let left = List.filter (fun (cell, _) -> Weak.check cell 0) made in
       d.made <- Some left;
-      let words = List.fold_left (fun sum (_, words) -> sum + words) 18 left in
-      Printf.sprintf "live %d %d" (1 + List.length left) words
+      let words = List.fold_left (fun sum (_, words) -> sum + words) 0 left in
+      Printf.sprintf "live %d %d" (List.length left) words
 
 let set d r v : reply =
   d.registers.(r) <- v;
@@ -167,10 +170,12 @@ let play d lines =
   d.ended <- true;
   Array.fill d.registers 0 16 nothing
 
-let opening number made =
+let opening shared made number =
   let registers = Array.make 16 nothing in
   registers.(0) <- shared;
-  { number; registers; out = Buffer.create 4096; serial = 0; ended = false; made }
+  let d = { number; registers; out = Buffer.create 4096; serial = 0; ended = false; made } in
+  note d 18 shared;
+  d
 
 (* The sections of a script, each with its lines in order. *)
 let sections lines =
@@ -188,7 +193,8 @@ let run () =
   let lines = In_channel.input_all stdin |> String.trim |> String.split_on_char '\n' in
   let parts = sections lines in
   let made = if List.length parts = 1 then Some [] else None in
-  let domains = List.mapi (fun number part -> (opening number made, part)) parts in
+  let first = opening (plain 0 0 16) made in
+  let domains = List.mapi (fun number part -> (first number, part)) parts in
   (match domains with
   | [ (d, part) ] -> play d part
   | _ -> List.map (fun (d, part) -> Domain.spawn (fun () -> play d part)) domains |> List.iter Domain.join);
@@ -196,5 +202,5 @@ let run () =
 
 let () =
   match Sys.argv with
-  | [| _; "can" |] -> Printf.printf "name OCaml %s\nversions 1\ndomains 8\nwithout full_major\n" Sys.ocaml_version
+  | [| _; "can" |] -> Printf.printf "name OCaml %s\nversions 1\ndomains 8\nprofile ocaml5\nalone full_major\n" Sys.ocaml_version
   | _ -> run ()

@@ -55,7 +55,7 @@ let () =
   assert (refusal (fun () -> Weak_map.find seat ~map:7 ~key:1 ~dst:8) = Some No_register);
   assert (refusal (fun () -> Weak_map.make seat ~dst:(-1)) = Some No_register);
   let tells act =
-    let seat = (start { config with ephes = 8; finals = 3 }).(0) in
+    let seat = (start { config with ephes = 8; finals = 4 }).(0) in
     let perform command = ignore (perform seat command) in
     let called = ref [] in
     ignore (Weak_map.make seat ~dst:7);

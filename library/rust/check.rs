@@ -115,7 +115,7 @@ fn binds_weakly() -> Result<(), Refused> {
 
 // A seat in which finaliser 9 waits, and one of register 2 that is called.
 fn with_finalisers(told: &Arc<Mutex<Vec<Reply>>>) -> Result<Seat, Refused> {
-    let mut seat = start(Config { ephes: 8, finals: 3, ..CONFIG })?.remove(0);
+    let mut seat = start(Config { ephes: 8, finals: 4, ..CONFIG })?.remove(0);
     seat.make_map(7)?;
     seat.perform(Command::Alloc { dst: 3, tag: 0, fields: 1 })?;
     seat.perform(Command::Alloc { dst: 1, tag: 0, fields: 1 })?;

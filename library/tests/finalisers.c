@@ -33,7 +33,7 @@ static void calls(uint32_t kind, camlheap_bed *bed) {
     case 3: while (camlheap_why(&heap, 0, 1, 100, &way, fields, 4) == CAMLHEAP_AGAIN) turn(); break;
     case 4: turn(); break;
     case 5: CHECK(camlheap_submit(&heap, &(camlheap_command){.op = CAMLHEAP_POLL}) == CAMLHEAP_DONE); turn(); break;
-    case 6: CHECK(camlheap_rest(&heap, bed) == CAMLHEAP_DONE && camlheap_attend(bed) == CAMLHEAP_AGAIN && camlheap_come_back(&heap, bed) == CAMLHEAP_DONE); break;
+    case 6: CHECK(camlheap_rest(&heap, bed) == CAMLHEAP_DONE && camlheap_attend(bed) <= CAMLHEAP_WAITING && camlheap_come_back(&heap, bed) == CAMLHEAP_DONE); break;
     case 7: go(CAMLHEAP_MINOR, 0, 0); break;
     case 8: CHECK(camlheap_map_count(&heap, 1, &reply) == CAMLHEAP_DONE && camlheap_map_sweep(&heap, 1, &reply) == CAMLHEAP_DONE); break;
     default: CHECK(camlheap_stats(&heap, &counts) == CAMLHEAP_DONE && camlheap_put_int(&heap, 7, 1, &reply) < CAMLHEAP_NO_DOMAIN); turn();
@@ -43,6 +43,7 @@ static void calls(uint32_t kind, camlheap_bed *bed) {
 /* What was told so far is 0, 1, 2 .. */
 static uint32_t takes(uint32_t from) {
   camlheap_reply look, reply;
+  turn();
   while (camlheap_ran(&heap, 0, &look) == CAMLHEAP_DONE) {
     CHECK(camlheap_take_ran(&heap, &reply) == CAMLHEAP_DONE && reply.kind == CAMLHEAP_LAST && reply.number == from && look.number == from);
     from++;

@@ -9,7 +9,7 @@ trap 'rm -rf "$room"' EXIT
 prefix=$room/usr
 has() { command -v "$1" >/dev/null; }
 
-make -s -C "$library" install PREFIX="$prefix"
+make -s ${MAKEFILE_USED:+-f "$MAKEFILE_USED"} -C "$library" install PREFIX="$prefix"
 cd "$room"
 cat >one.c <<'END'
 #include <camlheap.h>

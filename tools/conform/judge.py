@@ -4,6 +4,8 @@ import os
 import re
 import subprocess
 
+import profiles
+
 TOP = os.path.dirname(os.path.dirname(os.path.dirname(os.path.realpath(__file__))))
 LEGAL, NONE_FOUND, GAVE_UP = 0, 6, 7
 
@@ -25,6 +27,9 @@ class Judge:
     """The program, which is proved and built first where that is needed."""
 
     def __init__(self, is_proved, profile, states):
+        if profile not in profiles.PROFILES:
+            raise NoJudge(f"there is no profile {profile}; there are {', '.join(profiles.PROFILES)}")
+        self.profile = profile
         words = [f"{TOP}/history_check", *([] if is_proved else ["try"]), "--domains", "1"]
         first = subprocess.run(words, input="heap 1\n---\ndomain 0\n", text=True, stdout=subprocess.DEVNULL, check=False)
         if first.returncode != LEGAL:
@@ -32,9 +37,13 @@ class Judge:
         # The program itself, once it is built: the launcher looks at each file of its crates.
         built = f"{TOP}/crates/history_check/out/history_check{'' if is_proved else '.unproved'}"
         self.program = os.environ.get("CHECKER") or built
-        self.options = ["--states", str(states), *(["--profile", profile] if profile != "strict" else [])]
+        self.options = ["--states", str(states)]
 
     def judge(self, script, domains, output):
+        """What is said of an output under the profile."""
+        return profiles.judge(lambda script, output: self.judge_strictly(script, domains, output), self.profile, script, output)
+
+    def judge_strictly(self, script, domains, output):
         words = [self.program, "--domains", str(domains), *self.options]
         ran = subprocess.run(words, input=f"{script}---\n{output}", capture_output=True, text=True, check=False)
         if ran.returncode not in (LEGAL, NONE_FOUND, GAVE_UP):

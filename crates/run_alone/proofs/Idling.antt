@@ -8,7 +8,6 @@ use Rattle.model_core.specs.declared.reply.Reply.{Reply}
 use Rattle.model_core.specs.declared.reply.Applied.TheVariants.{Replied, Silent}
 use Rattle.model_core.specs.declared.state.Sizes.{Sizes}
 use Rattle.model_core.specs.Fronts.{IsFrontOf}
-use Rattle.heap_rule.specs.declared.config.Config.{Config}
 use Rattle.heap_rule.specs.Limits.{sizes_in}
 use Rattle.heap_rule.specs.Token.{SharedHeap, IsIn}
 use Rattle.run_turns.specs.declared.supply.Supply.{Supply}

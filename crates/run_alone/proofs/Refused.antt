@@ -1,9 +1,9 @@
 -- What the clauses of a heap's only domain refuse.
-use Rattle.std.proofs.Common.{◌≡◌, ◌≢◌, ◌<◌, ◌∙◌, ℕ, true, None, Some, arith, refl, slice_get}
+use Rattle.std.proofs.Common.{◌≡◌, ◌≢◌, ◌<◌, true, None, Some, arith, refl, slice_get}
 use Rattle.model_core.specs.declared.command.Command.TheVariants.{FullMajor}
 use Rattle.heap_rule.specs.Token.{SharedHeap}
 use Rattle.gc_pause.specs.declared.phases.decider.Decider.{Decider}
-use Rattle.run_turns.specs.Runs.{RunView, run_seeing, served_since}
+use Rattle.run_turns.specs.Runs.{RunView, run_seeing}
 use Rattle.step_finalisers.specs.Registering.{count_of}
 use Rattle.run_alone.specs.Lone.{IsLone, OnlyFinalises, PassesAlone, ServesOn, TriesOn}
 use Rattle.run_alone.specs.Paces.{steps_left}

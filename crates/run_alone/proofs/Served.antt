@@ -1,5 +1,5 @@
 -- The pause for which a heap's only domain has asked.
-use Rattle.std.proofs.Common.{true≢false, ◌==◌, ◌≡◌, ◌≢◌, ◌∙◌, ◌⊎◌, ◌+◌, [], inl, inr, ⊎_elim, ℕ, Bool, true, false, Option, Some, None, length, arith, refl, sym, ap, subst, lt-ltb}
+use Rattle.std.proofs.Common.{true≢false, ◌==◌, ◌≡◌, ◌≢◌, ◌∙◌, ◌⊎◌, ◌+◌, inl, inr, ⊎_elim, ℕ, Bool, true, false, Option, Some, None, length, arith, refl, sym, ap, subst, lt-ltb}
 use Rattle.std.proofs.lemmas.Bool.{eqb-false, eqb-true}
 use Rattle.model_core.specs.Domains.{IsWithinLimits, domain_at}
 use Rattle.heap_rule.specs.declared.config.Config.{Config}
@@ -11,9 +11,9 @@ use Rattle.heap_rule.specs.Rule.{state_of}
 use Rattle.heap_rule.specs.Token.{SharedHeap, IsIn}
 use Rattle.gc_pause.proofs.OfLaws.Blocks.{owes_few}
 use Rattle.run_turns.specs.declared.supply.Supply.TheVariants.{Open}
-use Rattle.run_turns.specs.Runs.{HasLooked, IsRun, KnowsQueue, RunView, halted, is_asked, served_since}
+use Rattle.run_turns.specs.Runs.{IsRun, KnowsQueue, RunView, halted, is_asked, served_since}
 use Rattle.run_turns.proofs.PauseLemmas.{even_next, not_both}
-use Rattle.run_alone.specs.Lone.{AsksOnce, ComesBack, IsBehindAnswer, IsLone, IsPausing, IsServed, ServesOn, Wants}
+use Rattle.run_alone.specs.Lone.{ComesBack, IsBehindAnswer, IsLone, IsPausing, IsServed, ServesOn, Wants}
 use Rattle.run_alone.proofs.Idling.{going, idles_now}
 use Rattle.run_alone.proofs.Keeping.{asks_none, lone_halted, wants_none}
 use Rattle.run_alone.proofs.Paces.{halted_last, halted_paced}
@@ -136,14 +136,3 @@ comes_back h r s l calm i ends = record {
 -- a command that was handed in
 pub lone_submitted : (h : SharedHeap) (r : RunView) → IsIn r.token h → IsRun r → h.config.domains ≡ 1 → r.supply ≡ Open → r.asked ≡ None → IsLone h r
 lone_submitted h r here is alone more none = record { here = here; is = is; alone = alone; more = more; asks = asks_none r none; unqueued = λ runs w. absurd (wants_none r none w) }
-
--- one that has looked at the want word
-pub lone_looked : (h : SharedHeap) (r s : RunView) → IsLone h r → HasLooked r s → IsIn s.token h → IsRun s → IsLone h s
-lone_looked h r s l k here is = record {
-  here = here;
-  is = is;
-  alone = l.alone;
-  more = ap (λ (v : RunView). v.supply) k.run ∙ l.more;
-  asks = subst AsksOnce (sym k.run) (record { before = l.asks.before; arrived = l.asks.arrived; forgotten = l.asks.forgotten });
-  unqueued = subst (λ (v : RunView). v.left ≡ None → Wants v → v.token.view.own.finalisers.queue.items ≡ []) (sym k.run) l.unqueued;
-}

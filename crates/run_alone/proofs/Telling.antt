@@ -12,13 +12,12 @@ use Rattle.gc_pause.specs.declared.phases.decider.Decider.{Decider}
 use Rattle.run_turns.specs.declared.supply.Supply.TheVariants.{Listed, Section, Open}
 use Rattle.run_turns.specs.declared.turned.Turned.{Turned}
 use Rattle.run_turns.specs.declared.turned.Turned.TheVariants.{Did}
-use Rattle.run_turns.specs.Runs.{RunView, CalmAnswers, GoesOn, IsRun, PassesOn, Stretches, IsHandedIn, IsUnanswered, answer_of, first_reply, halted, run_seeing, submitted}
+use Rattle.run_turns.specs.Runs.{RunView, CalmAnswers, GoesOn, IsRun, PassesOn, Stretches, IsHandedIn, IsUnanswered, answer_of, first_reply, halted, run_seeing}
 use Rattle.run_turns.specs.Runs.Stretches.{ByOthers}
 use Rattle.run_turns.specs.Sections.{is_spawned_at}
-use Rattle.run_turns.specs.Singly.Driving.{Answered, AwaitAnswers, Awaits}
+use Rattle.run_turns.specs.Singly.Driving.{AwaitAnswers, Awaits}
 use Rattle.run_turns.proofs.GoingLemmas.{IsSame, answered_goes, calm_goes, gone_goes, seen_goes as answer_goes}
 use Rattle.run_turns.proofs.Moving.{front_prefix}
-use Rattle.run_turns.proofs.OfSingly.Begun.{handed_in}
 use Rattle.run_turns.proofs.Adding.{adds_nothing, adds_nowhere, adds_on, turn_adds}
 use Rattle.run_turns.proofs.OfSingly.Driven.{awaits_turn, open_handed}
 use Rattle.run_turns.proofs.StretchLemmas.{calm_stretches, passed_stretches}
@@ -107,10 +106,6 @@ tells_passed decider h q s was here is more p =
       answers = λ start command w. awaits_turn h start command q s w here stretch goes;
       ran = turn_adds (sizes_in h.config) q s (open_handed q.supply more) goes stretch;
     }
-
--- a command that was just handed in
-pub tells_submitted : (h : SharedHeap) (r : RunView) (c : model.Command) → IsIn r.token h → r.supply ≡ Open → Awaits h r.token.view c (submitted r c)
-tells_submitted h r c here more = handed_in h r r (submitted r c) c here more (record { run = refl; number = refl; front = front_whole r.token.view.own.number r.token.view.seen.front; listed = refl; takes = takes_none r.token.view r.token.view refl refl }) refl
 
 -- a command that was made has a reply
 pub never_unanswered : (h : SharedHeap) (r s : RunView) → IsRun r → s.supply ≡ Open → IsRun s → r.next < length r.commands → s.commands ≡ r.commands → s.next ≢ r.next → IsUnanswered s → ⊥

@@ -1,7 +1,6 @@
 -- What a step in a pause leaves of the run of a heap's only domain.
-use Rattle.std.proofs.Common.{true≢false, ◌≡◌, ◌≢◌, ◌∙◌, ◌⊎◌, ◌&&◌, ◌||◌, ◌==◌, ◌+◌, ◌<◌, inl, inr, ⊎_elim, ℕ, Bool, true, false, if◌then◌else◌, Option, Some, None, slice_get, arith, refl, sym, ap, subst, lt-ltb, List}
+use Rattle.std.proofs.Common.{true≢false, ◌≡◌, ◌≢◌, ◌∙◌, ◌&&◌, ◌||◌, ◌==◌, ◌+◌, ◌<◌, inl, inr, ⊎_elim, ℕ, Bool, true, false, if◌then◌else◌, Option, Some, None, slice_get, arith, refl, sym, ap, subst, lt-ltb, List}
 use Rattle.std.proofs.lemmas.Bool.{eq-eqb}
-use Rattle.model_core.specs.declared.command.Command as model
 use Rattle.model_core.specs.declared.entry.Entry.{Entry}
 use Rattle.heap_rule.specs.declared.config.Config.{Config}
 use Rattle.heap_rule.specs.declared.phase.Kind.{Kind}

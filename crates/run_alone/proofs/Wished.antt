@@ -19,7 +19,7 @@ use Rattle.run_turns.proofs.Adding.{turn_adds}
 use Rattle.run_turns.proofs.OfSingly.Driven.{awaits_turn, open_handed}
 use Rattle.run_turns.proofs.PauseLemmas.{even_next}
 use Rattle.run_alone.specs.Lone.{IsLone, LooksFirst, Tells as Telling, Wants}
-use Rattle.run_alone.proofs.Keeping.{Came, asks_none, came, lone_calm, wants_none, wants_now}
+use Rattle.run_alone.proofs.Keeping.{Came, asks_none, came, lone_calm, wants_now}
 use Rattle.run_alone.proofs.Keeping.Came.{Finalised, Asked, IsShort, Made}
 use Rattle.run_alone.proofs.Paces.{begun_paced, last_odd, last_running, runs_paced}
 
@@ -133,13 +133,3 @@ module _ (h : SharedHeap) (r s : RunView) (limits : IsWithinLimits (sizes_in h.c
   looks_first (Held section) t = from (Held section) t
   looks_first (Idle n) t = from (Idle n) t
   looks_first Over t = from Over t
-
--- one that wants a pause runs, and one that wants none has asked for none
-pub wants_runs : (h : SharedHeap) (old new : RunView) → LooksFirst h old new → Wants new → new.left ≡ None
-wants_runs h old new f w = by new.left refl where
-  by : (o : Option Kind) → new.left ≡ o → new.left ≡ None
-  by None is = is
-  by (Some kind) is = absurd (wants_none new (f.unasked (λ none. none_some kind (sym none ∙ is))) w)
-
-pub wants_not : (h : SharedHeap) (old new : RunView) → LooksFirst h old new → new.next ≡ old.next → (Wants new → ⊥) → new.asked ≡ None
-wants_not h old new f same never = ⊎_elim (λ w. absurd (never w)) (λ none. none) (f.rests same)

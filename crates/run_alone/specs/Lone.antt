@@ -1,6 +1,5 @@
 -- A run whose domain is the only one of its heap, and whose commands are handed in.
 use Rattle.std.specs.Prelude.{◌≡◌, ◌≢◌, ◌⊎◌, ◌≤◌, ◌<◌, ◌+◌, ℕ, Bool, true, false, List, [], slice_get, Option, Some, None}
-use Rattle.model_core.specs.declared.command.Command as model
 use Rattle.model_core.specs.declared.command.Command.TheVariants.{FullMajor}
 use Rattle.model_core.specs.declared.entry.Entry.{Entry}
 use Rattle.heap_rule.specs.declared.phase.Kind.{Kind}

@@ -40,9 +40,7 @@ fn meet_below(
     let Some(slot) = others.pop() else {
         unreachable!()
     };
-    let Some(run) = slot else {
-        unreachable!()
-    };
+    let Some(run) = slot else { unreachable!() };
     runs.push_reserved(SharedRun::of(share, run));
     first
 }

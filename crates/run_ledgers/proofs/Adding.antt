@@ -20,14 +20,17 @@ use Rattle.heap_rule.specs.declared.config.Config.{Config}
 use Rattle.heap_rule.specs.Limits.{sizes_in}
 use Rattle.run_turns.specs.Handed.{OnlyRuns}
 use Rattle.run_turns.specs.Kept.{answers, finalised, is_command_of, is_run_of, replies_to}
-use Rattle.run_turns.specs.Runs.{Appended, wanting}
+use Rattle.run_turns.specs.Runs.{AddsRan, Appended, wanting}
 use Rattle.run_turns.specs.Runs.Stretches.{ByOthers, ByCommand, ByFinaliser, ByEnd, BySection}
 use Rattle.run_turns.proofs.Handed.{finalised_commands, performed_commands}
-use Rattle.run_turns.proofs.Adding.{entry_picked, runs_replies, taken_first}
+use Rattle.run_turns.proofs.Adding.{adds_nothing, entry_picked, look_adds, now_adds as now_waits, runs_replies, submit_adds, taken_first, turn_adds}
+use Rattle.run_turns.specs.declared.supply.Supply.TheVariants.{Closed}
+use Rattle.model_core.proofs.Histories.FrontLemmas.{front_whole}
 use Rattle.run_turns.proofs.AtOnce.{has_waited}
 use Rattle.run_turns.proofs.Kept.{picked_front, picks_commands, picks_runs, replies_to-append}
 use Rattle.run_turns.proofs.Turning.{stood}
-use Rattle.run_ledgers.specs.Ledgers.{Adds, CommandsAdd, FinalisersAdd, LedgersFollow, LedgersStand, NowAdds, RanTaken, RanWaits, TurnsAdd, all_ran, answers_in, commands_in, no_ledger, one_made}
+use Rattle.run_ledgers.specs.Ledgers.{Adds, CommandsAdd, FinalisersAdd, LedgersFollow, LedgersStand, NowAdds, OnlyTakesChange, RanTaken, RanWaits, TurnsAdd, all_ran, answers_in, commands_in, no_ledger, one_made}
+use Rattle.run_ledgers.specs.Ledgers.IsCalled.{AtOnce, ByClose, ByHand, ByLook, ByTurn}
 use Rattle.run_ledgers.specs.Ledgers.Tells.{TellsNothing, TellsRan, TellsReply}
 
 others_commands : (d : ℕ) (old between : List Entry) → NoneOf d between → commands (old ++ between) d ≡ commands old d
@@ -165,3 +168,11 @@ ran_waits z old new l m taken are adds ran =
 -- and what is taken was the oldest that did
 pub ran_taken : RanTaken
 ran_taken r l taken reply are first = taken_first l.ran taken r.ran reply are first
+
+-- no call but `take_ran` changes what waits but by adding at its end: a body that forgets it, or moves it, is refused
+pub only_takes_change : OnlyTakesChange
+only_takes_change h old new here handed (ByTurn goes stretch) = turn_adds (sizes_in h.config) old new handed goes stretch
+only_takes_change h old new here handed (AtOnce c result answers) = now_waits h old new c result here answers
+only_takes_change h old new here handed (ByHand c is) = subst (AddsRan (sizes_in h.config) old) (sym is) (submit_adds (sizes_in h.config) old c)
+only_takes_change h old new here handed (ByLook looked) = look_adds (sizes_in h.config) old new looked
+only_takes_change h old new here handed (ByClose is) = subst (AddsRan (sizes_in h.config) old) (sym is) (adds_nothing (sizes_in h.config) old (record old { supply = Closed }) refl refl (front_whole old.token.view.own.number old.token.view.seen.front))

@@ -8,10 +8,10 @@ use Rattle.model_core.specs.Fronts.{IsFrontOf}
 use Rattle.model_core.specs.History.{IsPrefix, commands}
 use Rattle.heap_rule.specs.Limits.{sizes_in}
 use Rattle.heap_rule.specs.Token.{IsIn, SharedHeap}
-use Rattle.run_turns.specs.declared.supply.Supply.TheVariants.{Section}
+use Rattle.run_turns.specs.declared.supply.Supply.TheVariants.{Closed, Section}
 use Rattle.run_turns.specs.Handed.{Finalised, PerformedOn}
 use Rattle.run_turns.specs.Kept.{answers, finalised}
-use Rattle.run_turns.specs.Runs.{AddsRan, NowAnswers, RunView, Stretches, ran_with, said_with}
+use Rattle.run_turns.specs.Runs.{AddsRan, GoesOn, HasLooked, IsHandedIn, NowAnswers, RunView, Stretches, ran_with, said_with, submitted}
 
 -- the commands that were made, with their replies, and the replies of the finalisers that ran
 pub record Ledger : Type 0 where
@@ -96,3 +96,14 @@ RanWaits = (z : Sizes) (old new : RunView) (l m : Ledger) (taken : List Reply) �
 
 abbrev pub RanTaken : Type 0
 RanTaken = (r : RunView) (l : Ledger) (taken : List Reply) (reply : Reply) → AreTaken l taken r → Some reply ≡ slice_get r.ran 0 → AreTaken l (taken ++ reply ∷ []) (record r { ran = drop 1 r.ran })
+
+-- a call of a run but `take_ran`: a turn, a command that is made at once or put off, one that is handed in, a look, or its close
+pub data IsCalled (h : SharedHeap) (old new : RunView) : Type 0 where
+  ByTurn : GoesOn old new → Stretches (sizes_in h.config) old new → IsCalled h old new
+  AtOnce : (c : model.Command) (result : Option Reply) → NowAnswers h old new c result → IsCalled h old new
+  ByHand : (c : model.Command) → new ≡ submitted old c → IsCalled h old new
+  ByLook : HasLooked old new → IsCalled h old new
+  ByClose : new ≡ record old { supply = Closed } → IsCalled h old new
+
+abbrev pub OnlyTakesChange : Type 0
+OnlyTakesChange = (h : SharedHeap) (old new : RunView) → IsIn old.token h → IsHandedIn old.supply → IsCalled h old new → AddsRan (sizes_in h.config) old new

@@ -1,5 +1,5 @@
 //! Laws of ledgers. Each function's contract is one law, and it does nothing else.
-ghost use Rattle.run_ledgers.specs.Ledgers.{CommandsAdd, FinalisersAdd, LedgersFollow, LedgersStand, NowAdds, RanTaken, RanWaits, TurnsAdd};
+ghost use Rattle.run_ledgers.specs.Ledgers.{CommandsAdd, FinalisersAdd, LedgersFollow, LedgersStand, NowAdds, OnlyTakesChange, RanTaken, RanWaits, TurnsAdd};
 
 /// A turn adds the command that it made with its reply, or the reply of one finaliser, or nothing; and which of these the run itself tells.
 pub fn turns_add()
@@ -39,4 +39,9 @@ pub fn ran_waits()
 /// So they are where the oldest that waits is taken.
 pub fn ran_taken()
     ensures { RanTaken }
+{}
+
+/// No call of a run but `take_ran` changes what waits to be taken of the replies of finalisers but by adding at its end, and it adds those of the finalisers that ran in it, as its front tells them.
+pub fn only_takes_change()
+    ensures { OnlyTakesChange }
 {}

@@ -4,6 +4,6 @@
 mod laws;
 
 pub use laws::{
-    commands_add, finalisers_add, ledgers_follow, ledgers_stand, now_adds, ran_taken, ran_waits,
-    turns_add,
+    commands_add, finalisers_add, ledgers_follow, ledgers_stand, now_adds, only_takes_change,
+    ran_taken, ran_waits, turns_add,
 };

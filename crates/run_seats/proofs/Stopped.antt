@@ -9,6 +9,9 @@ use Rattle.heap_rule.specs.Limits.{sizes_in}
 use Rattle.heap_rule.specs.declared.config.Config.{Config}
 use Rattle.heap_rule.specs.Ending.{AllBegin, AllIn}
 use Rattle.heap_rule.specs.Token.{SharedHeap}
+use Rattle.model_core.specs.declared.reply.Reply.{Reply}
+use Rattle.run_turns.specs.Kept.{finalised, is_run_of}
+use Rattle.run_turns.proofs.Kept.{picked_front, picks_runs}
 use Rattle.run_turns.specs.Runs.{IsRun, RunView, is_end_of}
 use Rattle.run_threads.specs.Driven.{Driven}
 use Rattle.run_seats.specs.declared.closing.Closing.{Closing}
@@ -16,7 +19,7 @@ use Rattle.run_turns.specs.declared.supply.Supply.TheVariants.{Closed}
 use Rattle.run_seats.specs.Pool.Keeping.{KeeperView}
 use Rattle.run_seats.specs.declared.idle.Idle.{Idle}
 use Rattle.run_seats.specs.Seating.{AllSeatsOf, IsSeat, SeatView, SeatsView, heap_of, seat_with}
-use Rattle.run_seats.specs.Stopping.{AreClosedFrom, IsClosedIn, IsClosedOf, IsOver, StaysClosed, Stops, StopsEach, token_of}
+use Rattle.run_seats.specs.Stopping.{AreClosedFrom, IsClosedIn, IsClosedOf, IsOver, StaysClosed, Stops, StopsEach, Tells, TellsEach, ran_of, token_of}
 use Rattle.run_seats.proofs.Growing.{front_commands, front_replies}
 
 any_more : (a b c : Bool) → IsTrue (a || b) → (IsTrue b → IsTrue c) → IsTrue (a || c)
@@ -61,6 +64,35 @@ pub stops_each : (h : SeatsView) (history : List Entry) (seats : List SeatView) 
     → AllByRecursion (λ (t : Closing). IsRun t.run) new → AllBegin history (map token_of new) → StopsEach (sizes_in h.heap.config) history seats
 stops_each h history seats old new ofs closed driven is begins = stops_all h history seats old new ofs closed driven.count driven.further driven.over is begins
 
+-- what each told
+tells_one : (k : Config) (history : List Entry) (s : SeatView) (r q : RunView) → s.heap.config ≡ k → IsClosedOf s r → StaysClosed r q → IsFrontOf q.token.view.own.number history q.token.view.seen.front → Tells (sizes_in k) history s q.ran
+tells_one k history s r q config closed stays begins =
+    let same : q.token.view.own.number ≡ s.number = stays.number ∙ closed.number in
+    let front : IsFrontOf s.number history q.token.view.seen.front = subst (λ (n : ℕ). IsFrontOf n history q.token.view.seen.front) same begins in
+    let sizes : r.token.config ≡ k = ap (λ (h : SharedHeap). h.config) closed.heap ∙ config in
+    record {
+      more = stays.adds.more;
+      waits = stays.adds.waits ∙ ap (λ (rs : List Reply). rs ++ stays.adds.more) closed.ran;
+      told = picked_front s.number (is_run_of s.number) (picks_runs s.number) (sizes_in k) history q.token.view.seen.front front
+          ∙ subst (λ (w : Config × (ℕ × List Entry)). finalised (sizes_in w.0) q.token.view.seen.front w.1.0 ≡ finalised (sizes_in w.0) w.1.1 w.1.0 ++ stays.adds.more) (λ i. (sizes i, (closed.number i, closed.front i))) stays.adds.told;
+    }
+
+tells_all : (h : SeatsView) (history : List Entry) (seats : List SeatView) (old new : List Closing) → AllSeatsOf h seats → AreClosedFrom seats old → length new ≡ length old → ((i : ℕ) (r q : Closing) → slice_get old i ≡ Some r → slice_get new i ≡ Some q → StaysClosed r.run q.run)
+    → AllBegin history (map token_of new) → TellsEach (sizes_in h.heap.config) history seats (map ran_of new)
+tells_all h history [] [] [] ofs closed count further begins = tt
+tells_all h history [] [] (q ∷ qs) ofs closed count further begins = cc
+tells_all h history [] (r ∷ rs) new ofs closed count further begins = absurd closed
+tells_all h history (s ∷ ss) [] new ofs closed count further begins = absurd closed
+tells_all h history (s ∷ ss) (r ∷ rs) [] ofs closed count further begins = cc
+tells_all h history (s ∷ ss) (r ∷ rs) (q ∷ qs) ofs closed count further begins = (
+  tells_one h.heap.config history s r.run q.run (ap (λ (x : SharedHeap). x.config) ofs.0.heap) closed.0 (further 0 r q refl refl) begins.0,
+  tells_all h history ss rs qs ofs.1 closed.1 (let many = count in omega (arith, many)) (λ i a b x y. further (suc i) a b x y) begins.1,
+)
+
+pub tells_each : (h : SeatsView) (history : List Entry) (seats : List SeatView) (old new : List Closing) → AllSeatsOf h seats → AreClosedFrom seats old → Driven (λ (x : SharedHeap) (t : Closing). IsClosedIn x t.run) (λ (t u : Closing). StaysClosed t.run u.run) (λ (t : Closing). IsOver t.run) h.heap old new
+    → AllBegin history (map token_of new) → TellsEach (sizes_in h.heap.config) history seats (map ran_of new)
+tells_each h history seats old new ofs closed driven begins = tells_all h history seats old new ofs closed driven.count driven.further begins
+
 -- the runs of seats that are closed are the heap's
 pub closed_in : (h : SeatsView) (seats : List SeatView) (old : List Closing) → AllSeatsOf h seats → AreClosedFrom seats old → (i : ℕ) (t : Closing) → slice_get old i ≡ Some t → IsClosedIn h.heap t.run
 closed_in h [] [] ofs closed i t at = cc
@@ -89,7 +121,7 @@ closed_length (s ∷ ss) (r ∷ rs) closed = ap suc (closed_length ss rs closed.
 
 -- the run of a seat, which gets no more command
 pub closed_of : (r n : RunView) (k : KeeperView Idle) (s : SeatView) → IsSeat r k → seat_with k.pool r ≡ s → n ≡ record r { supply = Closed } → IsClosedOf s n
-closed_of r n k s seat is closed = subst (λ (w : RunView × SeatView). IsClosedOf w.1 w.0) (λ i. (sym closed i, is i)) (record { heap = refl; number = refl; front = refl; closed = refl; done = seat.done })
+closed_of r n k s seat is closed = subst (λ (w : RunView × SeatView). IsClosedOf w.1 w.0) (λ i. (sym closed i, is i)) (record { heap = refl; number = refl; front = refl; ran = refl; closed = refl; done = seat.done })
 
 pub none_left : {A : Type 0} (l : List A) → length l ≡ 0 → l ≡ []
 none_left [] none = refl

@@ -1,14 +1,16 @@
 //! The turns by which the traces of all seats end.
-ghost use Rattle.std.specs.Prelude.{◌≡◌, ◌≤◌, ◌<◌, true, [], length, map, vec_capacity};
+ghost use Rattle.std.specs.Prelude.{◌≡◌, ◌≤◌, ◌<◌, true, [], IfOk, length, map, vec_capacity};
 ghost use Rattle.std.specs.List.{AllByRecursion};
 ghost use Rattle.run_turns.specs.Runs.{IsRun};
-ghost use Rattle.run_seats.specs.Stopping.{AreClosedFrom, IsClosedIn, IsOver, StaysClosed, closed_on, still_closed, token_of};
+ghost use Rattle.run_seats.specs.Stopping.{AreClosedFrom, IsClosedIn, IsOver, StaysClosed, closed_on, ran_of, still_closed, token_of};
 
 use crate::seat::Seat;
 use heap_rule::{Domain, Heap};
+use model_core::reply::Reply;
 use run_threads::{Trace, Went};
 use run_turns::DomainRun;
 use run_turns::singly::{Came, turn_below};
+use std::alloc::{AllocError, Global};
 
 /// The run of a seat that gets no more command.
 #[derive(Drop)]
@@ -86,19 +88,46 @@ pub(crate) fn close_all(seats: Vec<Seat>, room: Vec<Closing>) -> Vec<Closing>
     closing
 }
 
-// The domains of runs that are over, in room that was taken before.
-pub(crate) fn domains_of(closing: Vec<Closing>, room: Vec<Domain>) -> Vec<Domain>
-    requires over { AllByRecursion (λ t. IsOver t.run) closing.items }
+// Takes the replies of finalisers that wait to be taken of a run, into room that was taken before.
+fn take_all(run: &mut DomainRun, room: Vec<Reply>) -> Vec<Reply>
     requires empty { room.items ≡ [] }
+    requires room { length run.old.ran ≤ vec_capacity room }
+    ensures taken { result.items ≡ run.old.ran }
+    ensures same { run.new ≡ record run.old { ran = [] } }
+{
+    let mut taken = room;
+    'waiting: for _place in 0..run.ran_len() {
+        let Some(ran) = run.take_ran() else {
+            unreachable!()
+        };
+        taken.push_reserved(ran);
+    }
+    taken
+}
+
+// The domains of runs that are over, and what waits to be taken of each, in room that was taken before.
+pub(crate) fn domains_of(
+    alloc: Global,
+    closing: Vec<Closing>,
+    room: Vec<Domain>,
+    lists: Vec<Vec<Reply>>,
+) -> Result<(Vec<Domain>, Vec<Vec<Reply>>), AllocError>
+    requires over { AllByRecursion (λ t. IsOver t.run) closing.items }
+    requires empty { (room.items ≡ []) × (lists.items ≡ []) }
     requires room { length closing.items ≤ vec_capacity room }
-    ensures domains { result.items ≡ map token_of closing.items }
-    ensures faithful { AllByRecursion (λ t. IsRun t.run) closing.items }
+    requires lists { length closing.items ≤ vec_capacity lists }
+    ensures domains { IfOk result (λ r. r.0.items ≡ map token_of closing.items) }
+    ensures ran { IfOk result (λ r. map (λ v. v.items) r.1.items ≡ map ran_of closing.items) }
+    ensures faithful { IfOk result (λ _. AllByRecursion (λ t. IsRun t.run) closing.items) }
 {
     let mut domains = room;
+    let mut taken = lists;
     'runs: for trace in closing {
-        let Closing { run } = trace;
+        let Closing { mut run } = trace;
         run.shows_faithful();
+        let waiting = Vec::with_capacity(alloc, run.ran_len())?;
+        taken.push_reserved(take_all(&mut run, waiting));
         domains.push_reserved(run.into_domain());
     }
-    domains
+    Ok((domains, taken))
 }

@@ -6,7 +6,7 @@ ghost use Rattle.heap_rule.specs.Limits.{first_outside, sizes_in};
 ghost use Rattle.run_seats.specs.Seating.{AllSeatsOf, fresh_seats, seat_with};
 ghost use Rattle.run_seats.specs.Shared.Idling.{IsIdleIn};
 ghost use Rattle.run_seats.specs.Idling.{KeepsHeap};
-ghost use Rattle.run_seats.specs.Stopping.{StopsEach};
+ghost use Rattle.run_seats.specs.Stopping.{StopsEach, TellsEach};
 
 use crate::closing::{close_all, domains_of};
 use crate::idle::Idle;
@@ -14,6 +14,7 @@ use crate::pool::{Keeper, Pool};
 use crate::seat::{Resting, Seat};
 use crossbeam_utils::sync::EventCount;
 use heap_rule::{Config, Ended, Heap, StartFault};
+use model_core::reply::Reply;
 use run_threads::drive_alone;
 use run_turns::DomainRun;
 use run_turns::singly::start;
@@ -109,7 +110,31 @@ impl Seats {
     ///
     /// The history of the ended heap is legal, and has of each seat's domain exactly the commands that were made on it,
     /// each once and in order, with the replies that were given, then those of the finalisers that waited, and then the
-    /// end of its trace.
+    /// end of its trace. What of these replies of finalisers wasn't [taken](Seat::take_ran) is handed out, of each seat
+    /// in order.
+    pub fn stop_taking<R: Wait>(
+        self,
+        rt: &R,
+        alloc: Global,
+        seats: Vec<Seat>,
+    ) -> Result<(Ended, Vec<Vec<Reply>>), AllocError>
+        requires here { AllSeatsOf self seats.items }
+        requires some { 0 < length seats.items }
+        ensures sizes { IfOk result (λ r. r.0.sizes ≡ sizes_in self.heap.config) }
+        ensures legal { IfOk result (λ r. Legal r.0.sizes r.0.history) }
+        ensures stops { IfOk result (λ r. StopsEach r.0.sizes r.0.history seats.items) }
+        ensures tells { IfOk result (λ r. TellsEach r.0.sizes r.0.history seats.items (map (λ v. v.items) r.1.items)) }
+    {
+        let room = Vec::with_capacity(alloc, seats.len())?;
+        let lists = Vec::with_capacity(alloc, seats.len())?;
+        let traces = Vec::with_capacity(alloc, seats.len())?;
+        let Seats { heap, .. } = self;
+        let ended = drive_alone(rt, &heap, close_all(seats, traces), &NoGate);
+        let (domains, taken) = domains_of(alloc, ended, room, lists)?;
+        Ok((heap.stop(domains), taken))
+    }
+
+    /// The same, and forgets what wasn't taken.
     pub fn stop<R: Wait>(self, rt: &R, alloc: Global, seats: Vec<Seat>) -> Result<Ended, AllocError>
         requires here { AllSeatsOf self seats.items }
         requires some { 0 < length seats.items }
@@ -117,10 +142,7 @@ impl Seats {
         ensures legal { IfOk result (λ e. Legal e.sizes e.history) }
         ensures stops { IfOk result (λ e. StopsEach e.sizes e.history seats.items) }
     {
-        let room = Vec::with_capacity(alloc, seats.len())?;
-        let traces = Vec::with_capacity(alloc, seats.len())?;
-        let Seats { heap, .. } = self;
-        let ended = drive_alone(rt, &heap, close_all(seats, traces), &NoGate);
-        Ok(heap.stop(domains_of(ended, room)))
+        let (ended, _) = self.stop_taking(rt, alloc, seats)?;
+        Ok(ended)
     }
 }

@@ -31,7 +31,6 @@ use Rattle.run_alone.specs.Lone.{AsksOnce, ComesBack, Wants}
 use Rattle.run_alone.proofs.Idling.{idles_closed, idles_now}
 use Rattle.run_alone.specs.Paces.{IsPaced, last_of, most_in_pause}
 use Rattle.run_alone.proofs.Paces.{last_high}
-use Rattle.run_alone.proofs.Served.{lone_looked}
 use Rattle.run_alone.proofs.Walking.{zeroth}
 use Rattle.run_session.proofs.Labels.{made_labels}
 use Rattle.run_session.specs.Driving.{Finishes, HasGivenOut, Makes, Rests, RestsIn, session_of}
@@ -43,18 +42,11 @@ drop_all : {A : Type 0} (xs ys : List A) → drop (length xs) (xs ++ ys) ≡ ys
 drop_all [] ys = refl
 drop_all (x ∷ xs) ys = drop_all xs ys
 
--- a run that rests is there
-pub there : (h : SharedHeap) (o : Option RunView) → RestsIn h o → o ≢ None
-there h o i none = let e : ◌≡◌ {A = Option RunView} (Some i.run) None = sym i.there ∙ none in cc
-
+-- a run that rests
 pub rests_as : (h : SharedHeap) (o : Option RunView) (r : RunView) → RestsIn h o → o ≡ Some r → Rests h r
 rests_as h o r i is = let e : ◌≡◌ {A = Option RunView} (Some i.run) (Some r) = sym i.there ∙ is in let same : i.run ≡ r = cc in subst (Rests h) same i.rests
 
--- it has arrived no more often than it may
-pub arrived : (h : SharedHeap) (r : RunView) → Rests h r → r.token.view.own.arrivals ≤ most_arrivals
-arrived h r rests = let high = last_high (h.config.pools * 1024) r.token.view.own.arrivals r.left r.token.view.seen.share.progress r.token.view.seen.share.unmarked in let few = rests.few in omega (arith, high, few)
-
--- and may still as often as a command takes
+-- it may still arrive as often as a command takes
 pub few_left : (h : SharedHeap) (r : RunView) → Rests h r → r.token.view.own.arrivals + most_spent ≤ most_arrivals → last_of h.config r + 3 * most_in_pause < 2 ^ 60
 few_left h r rests may = let paced = rests.paced in omega (arith, paced, may)
 
@@ -136,20 +128,6 @@ module _ (h : SharedHeap) (o p : Option RunView) (c : model.Command) (reply : Re
     };
   }
 
--- a look at the want word leaves a run that rests as it is
-pub rests_looked : (h : SharedHeap) (r s : RunView) → Rests h r → HasLooked r s → IsIn s.token h → IsRun s → Rests h s
-rests_looked h r s rests k here is = record {
-  lone = lone_looked h r s rests.lone k here is;
-  done = ap (λ (v : RunView). v.next) k.run ∙ (rests.done ∙ sym (ap (λ (v : RunView). length v.commands) k.run));
-  legal = subst (λ (v : RunView). Legal (sizes_in h.config) v.token.view.seen.front) (sym k.run) rests.legal;
-  given = subst (λ (v : RunView). HasGivenOut h v.token.view) (sym k.run) rests.given;
-  paced = subst (λ (v : RunView). IsPaced h.config v) (sym k.run) rests.paced;
-  few = subst (λ (v : RunView). last_of h.config v < 2 ^ 60) (sym k.run) rests.few;
-}
-
-pub looked_same : (k : Config) (r s : RunView) → HasLooked r s → session_of k (Some s) ≡ session_of k (Some r)
-looked_same k r s looked = ap (λ (v : RunView). session_of k (Some v)) looked.run
-
 -- it has given out fewer labels than there are
 labels_below : (r : RunView) → IsRun r → r.supply ≡ Open → r.token.view.own.serial < 2 ^ 32
 labels_below r is more = let few : r.token.view.own.serial + labels_in (drop r.next r.commands) < 2 ^ 32 = subst (λ (s : Supply). HasLabels s r.token.view.own.serial r.next r.commands) more is.labels in omega (arith, few)
@@ -212,24 +190,6 @@ stopped h o r s t u i there back closed over =
     let front : List Entry = r.token.view.seen.front in
     let now : Idles h front r = idles_now h r rests.lone.here (zeroth h r rests.lone) rests.lone.is rests.lone.more rests.done in
     over front (idles_closed h front s t (back.idles front now) closed)
-
--- and where the oldest reply is taken
-pub rests_taken : (h : SharedHeap) (r s : RunView) → Rests h r → s ≡ record r { ran = drop 1 r.ran } → IsRun s → Rests h s
-rests_taken h r s rests same is = record {
-  lone = record {
-    here = subst (λ (v : RunView). IsIn v.token h) (sym same) rests.lone.here;
-    is = is;
-    alone = rests.lone.alone;
-    more = ap (λ (v : RunView). v.supply) same ∙ rests.lone.more;
-    asks = subst AsksOnce (sym same) (record { before = rests.lone.asks.before; arrived = rests.lone.asks.arrived; forgotten = rests.lone.asks.forgotten });
-    unqueued = subst (λ (v : RunView). v.left ≡ None → Wants v → v.token.view.own.finalisers.queue.items ≡ []) (sym same) rests.lone.unqueued;
-  };
-  done = ap (λ (v : RunView). v.next) same ∙ (rests.done ∙ sym (ap (λ (v : RunView). length v.commands) same));
-  legal = subst (λ (v : RunView). Legal (sizes_in h.config) v.token.view.seen.front) (sym same) rests.legal;
-  given = subst (λ (v : RunView). HasGivenOut h v.token.view) (sym same) rests.given;
-  paced = subst (λ (v : RunView). IsPaced h.config v) (sym same) rests.paced;
-  few = subst (λ (v : RunView). last_of h.config v < 2 ^ 60) (sym same) rests.few;
-}
 
 -- what the end of a trace adds to what waits
 ended_adds : (z : Sizes) (old new : RunView) (before : List Entry) (ran : List Reply) → old.token.view.own.number ≡ 0 → Finalised z 0 old.token.view.seen.front before ran → new.token.view.seen.front ≡ before ++ End 0 ∷ [] → AddsRan z old new → new.ran ≡ old.ran ++ ran

@@ -171,11 +171,7 @@ fn make_command(
 }
 
 /// A finaliser that was taken out of a domain's queue runs. Answers what its register held.
-pub(crate) fn make_run(
-    next: &mut Next,
-    d: usize,
-    entry: Registration,
-) -> Result<Held, AllocError> {
+pub(crate) fn make_run(next: &mut Next, d: usize, entry: Registration) -> Result<Held, AllocError> {
     let let_go = match entry.register {
         Some(register) => next.state.put(d, register, Held::Block(entry.block)),
         None => Held::Nothing,

@@ -1,4 +1,4 @@
-use Rattle.std.proofs.Common.{◌≡◌, ◌∙◌, ◌≤◌, Bool, List, length, arith, ap, false, sym, subst}
+use Rattle.std.proofs.Common.{◌≡◌, ◌∙◌, Bool, List, length, arith, ap, false, sym, subst}
 use Rattle.model_core.specs.declared.command.Command as model
 use Rattle.run_alone.specs.Idling.{IdleAnswers}
 use Rattle.run_alone.proofs.Closing.{closes, closes_adds, closes_fewer, idles_calm}

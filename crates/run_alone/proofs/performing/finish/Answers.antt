@@ -1,4 +1,4 @@
-use Rattle.std.proofs.Common.{◌∙◌, Option, Some, subst, sym}
+use Rattle.std.proofs.Common.{◌∙◌, Option, subst, sym}
 use Rattle.model_core.specs.declared.reply.Reply.{Reply}
 use Rattle.run_turns.specs.Singly.Driving.{AwaitAnswers}
 use Rattle.run_alone.proofs.Telling.{never_unanswered, tells_on}
