@@ -15,7 +15,7 @@ use Rattle.run_turns.specs.Runs.{AddsRan, GoesOn, HasLooked, IsHandedIn, RunView
 use Rattle.run_turns.specs.Singly.Driving.{Answered, Awaits}
 use Rattle.run_turns.proofs.Adding.{finalised_adds, performed_adds, taken_first}
 use Rattle.run_seats.specs.Shared.Sharing.{MayClose, SharedView, closed_of, taken_of}
-use Rattle.run_ledgers.specs.Ledgers.{Adds, IsLedger, Ledger, Tells, TurnAdds, all_ran, made_behind, no_ledger, one_made}
+use Rattle.run_ledgers.specs.Ledgers.{Adds, IsLedger, Ledger, Tells, all_ran, made_behind, one_made}
 use Rattle.run_ledgers.specs.Ledgers.Tells.{TellsNothing, TellsRan, TellsReply}
 use Rattle.run_ledgers.proofs.Adding.{commands_add, finalisers_add, ledgers_follow, turns_add}
 use Rattle.run_plays.specs.declared.player.Called.{Called}

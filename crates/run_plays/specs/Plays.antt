@@ -1,5 +1,5 @@
 -- Plays of all domains of a heap, and the one history that has what all of them were told.
-use Rattle.std.specs.Prelude.{◌≡◌, ℕ, zero, suc, ◌+◌, List, [], ◌∷◌, length, map, slice_get, Some}
+use Rattle.std.specs.Prelude.{◌≡◌, ℕ, zero, suc, ◌+◌, List, [], ◌∷◌, slice_get, Some}
 use Rattle.std.specs.List.{AllByRecursion}
 use Rattle.model_core.specs.declared.command.Command as model
 use Rattle.model_core.specs.declared.entry.Entry.{Entry}
@@ -45,6 +45,14 @@ pub record AreSeatsOf (k : Config) (seats : List Seat) : Type 0 where
   pub heap : SharedHeap
   pub size : heap.config ≡ k
   pub are : seats ≡ seats_from heap 0 k.domains
+
+-- these are all seats of some heap
+abbrev pub AreSeats : List Seat → Type 0
+AreSeats seats = (k : Config) × AreSeatsOf k seats
+
+-- the numbers are those of the heap whose seats these are
+abbrev pub AreSizesOf : List Seat → Sizes → Type 0
+AreSizesOf seats z = (k : Config) → AreSeatsOf k seats → z ≡ sizes_in k
 
 -- what a domain's player has in its log at the end: the commands that it made with the replies that were read, and the finalisers that were told
 pub record LogView : Type 0 where

@@ -1,9 +1,8 @@
 //! Plays of all domains of a heap.
-ghost use Rattle.std.specs.Prelude.{◌≡◌, ◌↔◌, ◌<◌, ◌≤◌, ℕ, Err, IfOk, None, Some, [], length, map, slice_get, vec_capacity, vec_len};
+ghost use Rattle.std.specs.Prelude.{◌≡◌, ◌↔◌, ◌<◌, ◌≤◌, ℕ, Err, IfOk, Some, [], length, map, vec_capacity, vec_len};
 ghost use Rattle.heap_rule.specs.declared.config.StartFault.TheVariants as fault;
-ghost use Rattle.heap_rule.specs.declared.config.Config.{Config};
 ghost use Rattle.heap_rule.specs.Limits.{first_outside, sizes_in};
-ghost use Rattle.run_plays.specs.Plays.{AreLogsOf, AreNew, AreSeatsOf, IsOneHistory, run_seat, seat_of};
+ghost use Rattle.run_plays.specs.Plays.{AreLogsOf, AreNew, AreSeats, AreSizesOf, IsOneHistory, run_seat, seat_of};
 
 use crate::log::Log;
 use crate::moves::{Client, Move, Told};
@@ -93,8 +92,10 @@ fn seat_all<C: Client + Drop>(
     requires one_each { vec_len clients ≡ vec_len runs }
     ensures seats { IfOk result (λ v. map (λ c. seat_of c.player) v.items ≡ map run_seat runs.items) }
 {
+    let mut clients = clients;
     let mut chairs = Vec::with_capacity(alloc, runs.len())?;
-    for (run, client) in runs.into_iter().zip(clients) {
+    for run in runs {
+        let client = clients.remove(0);
         chairs.push_reserved(Chair {
             player: Player::of(alloc, run),
             client,
@@ -128,10 +129,9 @@ fn end_play<C: Client + Drop>(
     alloc: Global,
     chairs: Vec<Chair<C>>,
 ) -> Result<Played, AllocError>
-    ghost config: { Config }
-    requires seats { AreSeatsOf config (map (λ c. seat_of c.player) chairs.items) }
+    requires seats { AreSeats (map (λ c. seat_of c.player) chairs.items) }
     requires some { 0 < vec_len chairs }
-    ensures sizes { IfOk result (λ p. p.sizes ≡ sizes_in config) }
+    ensures sizes { IfOk result (λ p. AreSizesOf (map (λ c. seat_of c.player) chairs.items) p.sizes) }
     ensures count { IfOk result (λ p. length p.logs ≡ vec_len chairs) }
     ensures one { IfOk result (λ p. IsOneHistory p) }
 {
@@ -158,7 +158,7 @@ pub fn plays_by_turns<C: Client + Drop>(
     rounds: usize,
 ) -> Result<Played, StartFault>
     requires one_each { vec_len clients ≡ config.domains }
-    ensures outside { (k : ℕ) → result ≡ Err (fault.Config k) → first_outside config ≡ Some k }
+    ensures outside { (k : ℕ) → (result ≡ Err (fault.Config k)) ↔ (first_outside config ≡ Some k) }
     ensures sizes { IfOk result (λ p. p.sizes ≡ sizes_in config) }
     ensures count { IfOk result (λ p. length p.logs ≡ config.domains) }
     ensures one { IfOk result (λ p. IsOneHistory p) }

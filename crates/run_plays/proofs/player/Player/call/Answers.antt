@@ -1,4 +1,4 @@
-use Rattle.std.proofs.Common.{◌∙◌, ap, subst, Option, Some, None, ◌∷◌, [], ◌++◌, List}
+use Rattle.std.proofs.Common.{◌∙◌, ap, subst, Option, ◌∷◌, [], ◌++◌, List}
 use Rattle.model_core.specs.declared.command.Command as model
 use Rattle.model_core.specs.declared.reply.Reply.{Reply}
 use Rattle.run_turns.specs.Singly.Driving.{AwaitAnswers}

@@ -1,7 +1,5 @@
-use Rattle.std.proofs.Common.{◌≡◌, ◌∙◌, sym, ap, subst, List, ◌∷◌, [], ◌++◌}
-use Rattle.model_core.specs.declared.command.Command as model
+use Rattle.std.proofs.Common.{◌≡◌, ◌∙◌, sym, ap, List, ◌∷◌, [], ◌++◌}
 use Rattle.model_core.specs.declared.reply.Reply.{Reply}
-use Rattle.run_seats.specs.Shared.Sharing.{SharedView}
 use Rattle.run_plays.specs.Playing.{PlayerView}
 use Rattle.run_plays.proofs.Logs.{none_taken, taken_as}
 use Rattle.run_plays.proofs.player.Player.take.Goals as goal

@@ -1,7 +1,6 @@
-use Rattle.std.proofs.Common.{◌≡◌, ◌∙◌, sym, ap, subst, Option, Some, None, ◌∷◌, [], ◌++◌, List, refl}
+use Rattle.std.proofs.Common.{◌≡◌, ◌∙◌, sym, ap, subst, None, ◌∷◌, [], ◌++◌, List, refl}
 use Rattle.model_core.specs.declared.command.Command as model
 use Rattle.model_core.specs.declared.reply.Reply.{Reply}
-use Rattle.run_turns.specs.Runs.{answer_of}
 use Rattle.run_plays.specs.Playing.{Notes, PlayerView}
 use Rattle.run_plays.proofs.Logs.{turned_idle, turned_made, turned_still}
 use Rattle.run_plays.proofs.player.Player.turn.Goals as goal
