@@ -1,4 +1,5 @@
-//! The most general client: a heap whose domains are played by whoever chooses, and one history that has what all of them were told.
+//! The most general client: a heap whose domains are played by whoever chooses, and one history that has what all of
+//! them were told.
 #![tactic(auto)]
 
 mod log;

@@ -3,8 +3,8 @@ use model_core::command::Command;
 use model_core::reply::Reply;
 use std::marker::Model;
 
-/// What a domain's player was told: the commands that it made, each once and in order, with the replies that were read, and the
-/// finalisers that ran.
+/// What a domain's player was told: the commands that it made, each once and in order, with the replies that were read,
+/// and the finalisers that ran.
 #[derive(Drop)]
 pub struct Log {
     pub made: Vec<(Command, Reply)>,

@@ -39,7 +39,8 @@ pub enum Told {
     Closed(Option<Refused>),
 }
 
-/// Whoever plays a domain: any way of choosing what to do next by all that was told so far. It has no clauses, so nothing is known of it.
+/// Whoever plays a domain: any way of choosing what to do next by all that was told so far. It has no clauses, so
+/// nothing is known of it.
 pub trait Client {
     /// What it does next, after its last move came to this.
     fn next(&mut self, told: Told) -> Move;

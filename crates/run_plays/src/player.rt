@@ -22,8 +22,9 @@ pub enum Called {
     Refused(Refused),
 }
 
-/// A domain with a share of its heap, and the log of its calls: the commands that it made, with the replies that were read, and the
-/// finalisers that were told. Its front has of its domain exactly these, and behind the finalisers those that wait to be taken.
+/// A domain with a share of its heap, and the log of its calls: the commands that it made, with the replies that were
+/// read, and the finalisers that were told. Its front has of its domain exactly these, and behind the finalisers those
+/// that wait to be taken.
 #[derive(Drop)]
 pub struct Player {
     run: SharedRun,
@@ -56,8 +57,8 @@ impl Player {
         }
     }
 
-    /// Hands in a command, and makes it at once where that can be. Refused for want of memory for the log alone, and then nothing has
-    /// changed.
+    /// Hands in a command, and makes it at once where that can be. Refused for want of memory for the log alone, and
+    /// then nothing has changed.
     pub fn call(&mut self, command: Command) -> Result<Called, AllocError>
         ensures called { IfOk result (Calls command self.old self.new) }
         ensures same { IfErr result (λ _. self.new ≡ self.old) }
@@ -77,8 +78,8 @@ impl Player {
         }
     }
 
-    /// One turn of the domain: how far it came, and the reply where the command was made that is awaited. Refused for want of memory for
-    /// the log alone, and then nothing has changed.
+    /// One turn of the domain: how far it came, and the reply where the command was made that is awaited. Refused for
+    /// want of memory for the log alone, and then nothing has changed.
     pub fn turn(&mut self) -> Result<(Came, Option<Reply>), AllocError>
         ensures awaited { IfOk result (λ r. Awaited self.old self.new r.1) }
         ensures same { IfErr result (λ _. self.new ≡ self.old) }
@@ -96,8 +97,8 @@ impl Player {
         Ok((came, Some(reply)))
     }
 
-    /// Takes the oldest finaliser that has run and wasn't taken yet. Refused for want of memory for the log alone, and then nothing has
-    /// changed.
+    /// Takes the oldest finaliser that has run and wasn't taken yet. Refused for want of memory for the log alone, and
+    /// then nothing has changed.
     pub fn take(&mut self) -> Result<Option<Reply>, AllocError>
         ensures takes { IfOk result (Takes self.old self.new) }
         ensures same { IfErr result (λ _. self.new ≡ self.old) }
@@ -137,15 +138,20 @@ impl Player {
         Ok(())
     }
 
-    /// The domain with its share of the heap, and its log, once all finalisers that wait were taken: the domain's front has of it just
-    /// what the log says.
+    /// The domain with its share of the heap, and its log, once all finalisers that wait were taken: the domain's front
+    /// has of it just what the log says.
     pub fn into_parts(self) -> Result<(SharedRun, Log), AllocError>
         ensures seat { IfOk result (λ p. run_seat p.0 ≡ seat_of self) }
         ensures log { IfOk result (λ p. IsLogOf p.1 p.0) }
     {
         let mut player = self;
         player.take_all()?;
-        let Player { run, made, told, .. } = player;
+        let Player {
+            run,
+            made,
+            told,
+            ..
+        } = player;
         Ok((run, Log { made, told }))
     }
 }

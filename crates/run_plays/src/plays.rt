@@ -125,10 +125,7 @@ fn part_all<C: Client + Drop>(
 }
 
 // Brings all domains together at the end.
-fn end_play<C: Client + Drop>(
-    alloc: Global,
-    chairs: Vec<Chair<C>>,
-) -> Result<Played, AllocError>
+fn end_play<C: Client + Drop>(alloc: Global, chairs: Vec<Chair<C>>) -> Result<Played, AllocError>
     requires seats { AreSeats (map (λ c. seat_of c.player) chairs.items) }
     requires some { 0 < vec_len chairs }
     ensures sizes { IfOk result (λ p. AreSizesOf (map (λ c. seat_of c.player) chairs.items) p.sizes) }
@@ -145,12 +142,12 @@ fn end_play<C: Client + Drop>(
     Ok(Played { run, logs })
 }
 
-/// A heap of this size, whose domains are played by these clients in one hand, a move each in every round, for so many rounds. At the
-/// end all finalisers that wait are taken.
+/// A heap of this size, whose domains are played by these clients in one hand, a move each in every round, for so many
+/// rounds. At the end all finalisers that wait are taken.
 ///
-/// Whatever the clients choose, there is one legal history of the heap that has of each domain just what its client was told: each command
-/// that was made, once and in order, with the reply that was read, and each finaliser that ran. `Config(k)` names the first of the heap's
-/// numbers outside its limit; else want of memory alone refuses.
+/// Whatever the clients choose, there is one legal history of the heap that has of each domain just what its client was
+/// told: each command that was made, once and in order, with the reply that was read, and each finaliser that ran.
+/// `Config(k)` names the first of the heap's numbers outside its limit; else want of memory alone refuses.
 pub fn plays_by_turns<C: Client + Drop>(
     alloc: Global,
     config: Config,

@@ -26,12 +26,16 @@ pub returns-clause-awaited : goal.returns-clause-awaited
 returns-clause-awaited c =
     let p : PlayerView = record { shared = c.self.inside.run; made = c.self.inside.made.items; told = c.self.inside.told.items; awaits = c.self.inside.awaits } in
     let is : p ≡ c.args.self.now = c.self.view_is in
-    let q : PlayerView = record { shared = c.turn-came.new.self; made = c.push_reserved.new.self.items; told = c.self.inside.told.items; awaits = None } in
-    (c.in-Some.command, (ap (λ (v : PlayerView). v.awaits) (sym is) ∙ c.in-Some.is,
-    subst (λ (v : PlayerView). Notes c.in-Some.command c.in-Some-answer.reply v q) is (record {
-      heap = c.turn-came.ensures.heap;
-      number = c.turn-came.ensures.goes_on.number;
-      made = c.push_reserved.ensures.items ∙ ap (λ (l : List (model.Command × Reply)). l ++ (c.in-Some.command, c.in-Some-answer.reply) ∷ []) c.try_reserve.ensures.items;
-      told = refl;
-      done = refl;
-    })))
+    let q : PlayerView = record { shared = c.turn-came.new.self; made = c.push_reserved.new.self.items; told = c.self.inside.told.items; awaits = None } in (
+      c.in-Some.command,
+      (
+        ap (λ (v : PlayerView). v.awaits) (sym is) ∙ c.in-Some.is,
+        subst (λ (v : PlayerView). Notes c.in-Some.command c.in-Some-answer.reply v q) is (record {
+          heap = c.turn-came.ensures.heap;
+          number = c.turn-came.ensures.goes_on.number;
+          made = c.push_reserved.ensures.items ∙ ap (λ (l : List (model.Command × Reply)). l ++ (c.in-Some.command, c.in-Some-answer.reply) ∷ []) c.try_reserve.ensures.items;
+          told = refl;
+          done = refl;
+        }),
+      ),
+    )
