@@ -145,8 +145,8 @@ fn end_play<C: Client + Drop>(alloc: Global, chairs: Vec<Chair<C>>) -> Result<Pl
 /// A heap of this size, whose domains are played by these clients in one hand, a move each in every round, for so many
 /// rounds. At the end all finalisers that wait are taken.
 ///
-/// Whatever the clients choose, there is one legal history of the heap that has of each domain just what its client was
-/// told: each command that was made, once and in order, with the reply that was read, and each finaliser that ran.
+/// Whatever the clients choose, there is one legal history of the heap that has of each domain just what its log says:
+/// each command that was made, once and in order, with the reply that was read, and each finaliser that ran.
 /// `Config(k)` names the first of the heap's numbers outside its limit; else want of memory alone refuses.
 pub fn plays_by_turns<C: Client + Drop>(
     alloc: Global,
