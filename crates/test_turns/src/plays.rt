@@ -72,9 +72,10 @@ fn random_clients_are_told_commands_and_finalisers(rt: HostRuntime) -> Result<()
     };
     let alloc = rt.alloc();
     let mut clients = Vec::new(alloc);
-    for state in 1..5 {
-        clients.push(Draw { state })?;
-    }
+    clients.push(Draw { state: 1 })?;
+    clients.push(Draw { state: 2 })?;
+    clients.push(Draw { state: 3 })?;
+    clients.push(Draw { state: 4 })?;
     let played = plays_by_turns(alloc, config, clients, 2000)?;
     for log in played.logs() {
         assert!(&rt; is_lively(log));
