@@ -276,8 +276,9 @@ uint32_t camlheap_why(camlheap_domain *domain, uint32_t maker, uint32_t serial, 
  *
  * DONE and the reply; NO_DOMAIN, CLOSED, BUSY, NO_REGISTER for one that isn't below 8, or NO_LABEL, and then nothing has
  * changed; or AGAIN where a pause is wanted or must come first, or others won a field too often: then no binding has changed,
- * and the registers below 8 hold what they held. Take a turn, and ask anew; where that doesn't help, make a MINOR and then a
- * FULL_MAJOR, which make the room that an allocation lacks.
+ * and the registers below 8 hold what they held. Beside other domains that is usual, of each of these calls: camlheap_settle below,
+ * and ask anew, as in `while ((told = camlheap_map_get(..)) == CAMLHEAP_AGAIN) camlheap_settle(domain);`. Where that doesn't help
+ * make a MINOR and then a FULL_MAJOR, which make the room that an allocation lacks.
  *
  * A new map in register dst, which binds nothing: its block, or full. */
 uint32_t camlheap_map_make(camlheap_domain *domain, uint8_t dst, camlheap_reply *reply);
@@ -433,6 +434,9 @@ static inline void camlheap_settle_beside(camlheap_domain *domain, camlheap_bed 
   while ((told = camlheap_turn(domain)) == CAMLHEAP_AGAIN || told == CAMLHEAP_WAITING)
     if (told == CAMLHEAP_WAITING) camlheap_wait_on(bed, &waits);
 }
+static inline void camlheap_settle(camlheap_domain *domain) {
+  camlheap_settle_beside(domain, NULL);
+}
 
 /* A walk over a weak map by commands of one domain: how it goes, and what it has met. Registers 8 to 14 hold what the fields hold
  * at which it stands, the highest first; register 15 is used between. */
@@ -586,8 +590,8 @@ static inline uint32_t camlheap_come_back(camlheap_domain *domain, camlheap_bed 
 }
 
 /* Closes a domain, turns it until all have ended, and frees it: ENDED, or why it can't be closed. Until then it takes part
- * in the pauses of the others. Finalisers that weren't taken go with it, and those that wait run in these turns: to hear of them
- * close, turn until ENDED, camlheap_take_ran, and free. */
+ * in the pauses of the others. Finalisers that weren't taken go with it, and those that a collection has found run in these turns:
+ * to hear of them close, turn until ENDED, camlheap_take_ran, and free. What none has found never runs. */
 static inline uint32_t camlheap_finish_beside(camlheap_domain *domain, camlheap_bed *bed) {
   camlheap_waits waits = camlheap_no_waits();
   uint32_t told = camlheap_close(domain);

@@ -129,7 +129,7 @@ let leave seat =
 (* Turns a seat that rests, or waits for the others. *)
 let wait pause seat = if raw_attend seat.it <> again then pause ()
 
-let perform ?(pause = ignore) seat command =
+let make ?(pause = ignore) seat command =
   let rec go told =
     if told.code = waiting then wait pause seat;
     if told.code = again || told.code = waiting then go (raw_run seat.it)
@@ -140,6 +140,10 @@ let perform ?(pause = ignore) seat command =
   in
   go (raw_call seat.it (raw_of command))
 
+let perform ?pause seat = function
+  | (Finalise { number; _ } | Finalise_last { number; _ }) when number >= called -> raise (Refused Unfit)
+  | command -> make ?pause seat command
+
 let show seat register = answered (raw_show seat.it register)
 
 (* Registers a finaliser with what is to be called. *)
@@ -148,7 +152,7 @@ let register ?pause seat call command =
   seat.next_call <- (if number + 1 < 1 lsl 32 then number + 1 else called);
   Hashtbl.replace seat.calls number call;
   let forget () = Hashtbl.remove seat.calls number in
-  match perform ?pause seat (command number) with
+  match make ?pause seat (command number) with
   | Done -> Done
   | other -> forget (); other
   | exception error -> forget (); raise error

@@ -65,6 +65,20 @@ def sweeps():
     domain.finish()
 
 
+def refuses_numbers_of_callables():
+    """A finaliser's own number ends where those of callables begin, and what can't be called is no finaliser."""
+    (domain,) = camlheap.start()
+    domain.perform("alloc", 1, 0, 1)
+    assert refusal(domain.perform, "finalise_last", 1, 1 << 31) == refusal(domain.perform, "finalise", 1, 1 << 31, 2) == camlheap.Unfit
+    with contextlib.suppress(TypeError):
+        domain.finalise_last(1, 7)
+        raise AssertionError
+    with domain.resting():
+        assert refusal(domain.perform, "poll") == camlheap.NoDomain
+    assert len(domain.make_map(2)) == 0 and domain.perform("poll") == Reply("ok")
+    domain.finish()
+
+
 def with_finalisers(called):
     """A domain in which finaliser 9 waits, one whose callable raises, and one that is kept in `called`."""
     (domain,) = camlheap.start()
@@ -159,6 +173,7 @@ def main():
     first.free(), second.free()
     maps()
     sweeps()
+    refuses_numbers_of_callables()
     tells_each_once()
     goes_on_without_it()
     typed = iter(["", "alloc 99 0 1", "nonsense", "int 1 x", "stats", "help", *[""] * 12])

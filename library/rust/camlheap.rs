@@ -4,6 +4,20 @@
 //! that moves between threads, and that one thread at a time calls on, which the types see to. A pause of the collector
 //! needs all domains, so each seat makes commands, or takes a [`turn`](Seat::turn) now and then, until all are
 //! [finished](Seat::finish).
+//!
+//! ```no_run
+//! use camlheap::{Command, Config, start};
+//!
+//! let config = Config { domains: 1, minor_words: 4096, pools: 64, finals: 8, ephes: 8 };
+//! let mut seat = start(config)?.remove(0);
+//! seat.perform(Command::Alloc { dst: 1, tag: 0, fields: 2 })?;
+//! seat.finalise_last(1, |_| println!("it is gone"))?;
+//! seat.perform(Command::Forget { dst: 1 })?;
+//! seat.perform(Command::FullMajor)?;
+//! seat.perform(Command::Poll)?; // a collection only has a finaliser wait: it runs before the next command
+//! seat.finish()?;
+//! # Ok::<(), camlheap::Refused>(())
+//! ```
 use camlheap_sys as sys;
 use std::cell::Cell;
 use std::collections::HashMap;
@@ -25,7 +39,8 @@ pub struct Label {
 /// A register: 0 to 15.
 pub type Register = u8;
 
-/// What a seat may be asked to do. `camlheap.h` says of each what it does and replies.
+/// What a seat may be asked to do. The table of commands in `camlheap.h` says of each what it does and replies, with the operands in
+/// this order: its `ok` is [`Reply::Done`] and its `none` [`Reply::Empty`], and `expected` is its `dst`.
 #[derive(Clone, Copy, Debug, PartialEq, Eq)]
 pub enum Command {
     PutInt { dst: Register, value: i64 },
@@ -152,6 +167,15 @@ const REFUSALS: [(Refused, &str); 8] = [
     (Refused::Memory, "memory ran out"),
 ];
 
+/// The fields of a configuration, in order, each with its range.
+const RANGES: [&str; 5] = [
+    "domains, 1 to 8,",
+    "minor_words, 4096 to 65536 in steps of 4096,",
+    "pools, domains * (minor_words / 4096 + 18) + 1 to 2048,",
+    "finals, at most 200000,",
+    "ephes, at most 200000,",
+];
+
 impl Refused {
     fn of(told: u32) -> Refused {
         if told == sys::AGAIN {
@@ -170,7 +194,7 @@ impl fmt::Display for Refused {
         match (self, REFUSALS.iter().find(|(refused, _)| refused == self)) {
             (Refused::MoreBlocks, _) => out.write_str("there are more blocks than were to be looked into"),
             (Refused::NotNow, _) => out.write_str("a pause is wanted, or a finaliser waits"),
-            (Refused::Outside(field), _) => write!(out, "field {field} of the configuration is outside its range"),
+            (Refused::Outside(field), _) => write!(out, "{} is outside its range", RANGES[*field as usize - 1]),
             (_, said) => out.write_str(said.map_or("", |(_, text)| text)),
         }
     }
@@ -206,7 +230,10 @@ pub struct Seat {
 // The domain may be driven by any thread, as long as one at a time does: it is proved so of the crate that it stands on.
 unsafe impl Send for Seat {}
 
-/// A heap of this size: a seat for each of its domains, in order.
+/// A heap of this size: a seat for each of its domains, in order. [`Config`] has the number of `domains`, 1 to 8; the `minor_words` of
+/// the minor area of each, 4096 to 65536 in steps of 4096; the `pools` of 4096 words, `domains * (minor_words / 4096 + 18) + 1` to
+/// 2048; and for each domain the room for `finals`, finalisers that are registered or weren't called yet, and for `ephes`, ephemerons,
+/// one for each key that a weak map binds; at most 200000 each.
 pub fn start(config: Config) -> Result<Vec<Seat>, Refused> {
     if config.domains > 8 {
         return Err(Refused::Outside(1));
@@ -245,7 +272,15 @@ impl Seat {
     }
 
     /// Makes a command, and answers its reply. Where a pause is wanted it waits for the other seats of the heap.
+    /// A finaliser's number is below 2^31: the others are those of [`finalise`](Seat::finalise).
     pub fn perform(&mut self, command: Command) -> Result<Reply, Refused> {
+        match command {
+            Command::Finalise { number: CALLED.., .. } | Command::FinaliseLast { number: CALLED.., .. } => Err(Refused::Unfit),
+            _ => self.make(command),
+        }
+    }
+
+    fn make(&mut self, command: Command) -> Result<Reply, Refused> {
         const TURNS: u32 = 64;
         let mut reply = sys::Reply::default();
         let mut told = unsafe { sys::camlheap_call(&mut self.raw, &command.raw(), TURNS, &mut reply) };
@@ -277,7 +312,7 @@ impl Seat {
         let number = self.next_call;
         self.next_call = number.checked_add(1).unwrap_or(CALLED);
         self.calls.insert(number, call);
-        let made = self.perform(command(number));
+        let made = self.make(command(number));
         if made != Ok(Reply::Done) {
             self.calls.remove(&number);
         }
@@ -285,13 +320,15 @@ impl Seat {
     }
 
     /// Has `call` be called, on the thread that calls on this seat, once nothing leads to the block in `item` any more; register `dst`
-    /// holds it again then. Each registration is called once, behind the call on the seat in which its finaliser ran. [`Reply::Done`],
-    /// or [`Reply::BadType`] where `item` holds no block.
+    /// holds it again then. A collection only finds that: the finaliser runs before the next command or in a [turn](Seat::turn), and
+    /// each registration is called once, behind the call on the seat in which it ran; its place in `finals` is free then.
+    /// [`Reply::Done`], or [`Reply::BadType`] where `item` holds no block.
     pub fn finalise(&mut self, item: Register, dst: Register, call: impl FnOnce(Reply) + Send + 'static) -> Result<Reply, Refused> {
         self.register(Box::new(call), |number| Command::Finalise { item, number, dst })
     }
 
-    /// The same, once the block in `item` is gone for good.
+    /// The same, once the block in `item` is gone for good. The reply is [`Reply::Last`] with a number of this library's own, which
+    /// names no block: `call` captures what it has to know, such as the [`Label`].
     pub fn finalise_last(&mut self, item: Register, call: impl FnOnce(Reply) + Send + 'static) -> Result<Reply, Refused> {
         self.register(Box::new(call), |number| Command::FinaliseLast { item, number })
     }
@@ -314,7 +351,8 @@ impl Seat {
         self.ask(|domain, reply| unsafe { sys::camlheap_map_make(domain, dst, reply) })
     }
 
-    /// The weak map in a register below 8, which this seat or another has made.
+    /// The weak map in a register below 8, which this seat or another has made. The register isn't looked at. Where it holds no map
+    /// `get` and `remove` answer [`Reply::Empty`] and `insert` [`Refused::NotNow`]; `count` and `sweep` tell, by [`Reply::BadType`].
     pub fn map(&mut self, register: Register) -> WeakMap<'_> {
         WeakMap { seat: self, register }
     }
@@ -410,7 +448,8 @@ impl Seat {
         Resting(self)
     }
 
-    /// No command comes any more. Waits until the other seats are finished too, and frees the domain.
+    /// No command comes any more. Waits until the other seats are finished too, and frees the domain. Finalisers that wait are called
+    /// first; what no collection has found is never called.
     pub fn finish(mut self) -> Result<(), Refused> {
         let told = unsafe { sys::camlheap_close(&mut self.raw) };
         if told != sys::DONE {
@@ -423,9 +462,9 @@ impl Seat {
 }
 
 /// A weak map, which keeps neither its keys nor, for a key that nothing else leads to, what the key is bound to. It is a block:
-/// seats share one through a field, and use it by these calls alone. Keys and data are in registers below 8; registers 8 to 11
-/// are used between. A call waits for the other seats in a pause, and may collect where it lacks room.
-/// [`Refused::NotNow`] where there is no room, or others have won each time.
+/// seats share one through a field, and use it by these calls alone. Keys and data are in registers below 8. Keep nothing in
+/// registers 8 to 15 meanwhile: `get` and `remove` use 8 to 11, and `insert`, `sweep`, `clean` and `count` may empty 8 to 15. A call
+/// waits for the other seats in a pause, and may collect where it lacks room. [`Refused::NotNow`] where others have won each time.
 pub struct WeakMap<'a> {
     seat: &'a mut Seat,
     register: Register,
@@ -433,14 +472,16 @@ pub struct WeakMap<'a> {
 
 impl WeakMap<'_> {
     /// What the key in a register is bound to, into another: [`Reply::Int`] or [`Reply::Block`]. [`Reply::Empty`] where it isn't
-    /// bound, and [`Reply::BadType`] where the register holds no block.
+    /// bound, and then `dst` holds nothing; and [`Reply::BadType`] where `key` holds no block.
     pub fn get(&mut self, dst: Register, key: Register) -> Result<Reply, Refused> {
         let map = self.register;
         self.seat.ask(|domain, reply| unsafe { sys::camlheap_map_get(domain, dst, map, key, reply) })
     }
 
-    /// Binds the key in a register to what another holds: [`Reply::Done`]. [`Reply::Full`] where there is no room, and
-    /// [`Reply::BadType`] where the first holds no block or the other nothing.
+    /// Binds the key in a register to what another holds: [`Reply::Done`], or [`Reply::BadType`] where the first holds no block or the
+    /// other nothing. Where room is short it sweeps and collects first; then [`Refused::NoEphemeron`] where more keys live than there
+    /// is room for (one that is bound anew takes a place too), and [`Reply::Full`] or [`Refused::NotNow`] where there is none for a
+    /// block. No binding has changed then.
     pub fn insert(&mut self, key: Register, item: Register) -> Result<Reply, Refused> {
         let map = self.register;
         self.walk(|domain, bed, reply| unsafe { sys::camlheap_wrapped_map_bind(domain, bed, map, key, item, reply) })
@@ -460,7 +501,8 @@ impl WeakMap<'_> {
         self.walk(|domain, bed, reply| unsafe { sys::camlheap_wrapped_map_clean(domain, bed, map, reply) })
     }
 
-    /// How many keys are bound: [`Reply::Int`].
+    /// How many keys are bound: [`Reply::Int`], or [`Reply::BadType`] where the register holds no map. A key that is dead counts until
+    /// a collection has found that.
     pub fn count(&mut self) -> Result<Reply, Refused> {
         let map = self.register;
         self.walk(|domain, bed, reply| unsafe { sys::camlheap_wrapped_map_count(domain, bed, map, reply) })

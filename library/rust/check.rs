@@ -22,6 +22,7 @@ fn performs() -> Result<(), Refused> {
     assert_eq!(seat.perform(Command::Load { dst: 3, block: 1, index: 0 })?, Reply::Int(7));
     assert_eq!(seat.perform(Command::Load { dst: 3, block: 1, index: 9 })?, Reply::BadIndex);
     assert_eq!(seat.perform(Command::Copy { dst: 16, src: 0 }), Err(Refused::Unfit));
+    assert_eq!(seat.perform(Command::FinaliseLast { item: 1, number: 1 << 31 }), Err(Refused::Unfit));
     assert_eq!(seat.perform(Command::Finalise { item: 1, number: 3, dst: 4 })?, Reply::Done);
     assert_eq!(seat.perform(Command::FinaliseLast { item: 1, number: 4 }), Err(Refused::NoFinaliser));
     assert_eq!(seat.stats().finals, 1);

@@ -8,18 +8,25 @@
     domain.perform("poll")                              # prints gone
     domain.finish()
 
-Commands and their numbers are those of a script's line. `perform` waits for its reply: where a heap has several domains,
-a thread for each has to make commands or `turn` meanwhile, or leave its domain (`with`, or `Domain.leave`). What isn't done is
-raised as a class below `Refused`, and changes nothing. `python3 -m camlheap` shows a heap step by step, and makes what is typed.
+`FORMS` has each command with its numbers, in their order: `dst`, `a` and `b` are registers 0 to 15, `a` that of the block that is
+used; `n` is a field, or how many there are. docs/MODEL.md says what each does and answers. A command that can't be done as it is
+asked answers `type`, `bounds` or `full`, and nothing is raised: look at the `kind` of its reply. What wasn't taken at all is raised
+as a class below `Refused`, and changes nothing.
 
-The library is the one that the environment names by CAMLHEAP_LIBRARY, or that of the wheel, or that of `make -C library`, or
-the installed one."""
+`perform` waits for its reply: where a heap has several domains, a thread for each has to make commands or `turn` meanwhile, or the
+domain rests (`resting`) or is left (`with`, or `leave`). One thread that makes commands on two domains waits for itself. With
+CAMLHEAP_WATCH=S in the environment a wait says on standard error, once, that it has lasted S seconds.
 
+`python3 -m camlheap` shows a heap step by step, and makes what is typed. The library is the file that the environment names by
+CAMLHEAP_LIBRARY, as /usr/local/lib/libcamlheap.so.1, or that of the wheel, or that of `make -C library`, or what the loader finds."""
+
+import os
 import sys
 import time
 import traceback
 import weakref
-from collections.abc import Callable
+from collections.abc import Callable, Iterator
+from contextlib import contextmanager
 from dataclasses import dataclass
 from itertools import count
 from typing import NoReturn, Self
@@ -71,11 +78,11 @@ class Unfit(Refused):
 
 
 class NoEphemeron(Refused):
-    """There is no room for the ephemeron."""
+    """There is no room for the ephemeron: `start(ephes=..)` says for how many there is."""
 
 
 class NoFinaliser(Refused):
-    """There is no room for the finaliser."""
+    """There is no room for the finaliser: `start(finals=..)` says for how many there is."""
 
 
 class NoLabel(Refused):
@@ -83,7 +90,7 @@ class NoLabel(Refused):
 
 
 class NoRegister(Refused):
-    """There is no such register."""
+    """There is no such register, or none for this call: a map, its keys and its data are in registers below 8."""
 
 
 class OutOfMemory(Refused):
@@ -99,17 +106,25 @@ class MoreBlocks(Refused):
 
 
 class NotNow(Refused):
-    """A pause is wanted, or there is no room: take a `turn`, and ask anew."""
+    """A pause is wanted, or another domain has won each time: take a `turn`, and ask anew. Where that goes on there is no room for a
+    block: let go of some, or start with more `pools`."""
 
 
 class Outside(Refused):
     """A number of the heap's size is outside its range; `field` names it."""
 
     FIELDS = [it[0] for it in _c.Config._fields_]
+    RANGES = (
+        "1 to 8",
+        "4096 to 65536 in steps of 4096",
+        "domains * (minor_words // 4096 + 18) + 1 to 2048",
+        "0 to 200000",
+        "0 to 200000",
+    )
 
     def __init__(self, code: int):
         self.field = self.FIELDS[code - OUTSIDE - 1]
-        super().__init__(code, f"{self.field} is outside its range")
+        super().__init__(code, f"{self.field} is outside its range: {self.RANGES[code - OUTSIDE - 1]}")
 
 
 # The classes of refusals, by their numbers from 16 on.
@@ -194,8 +209,9 @@ def _command(word: str, numbers: tuple[int, ...]) -> _c.Command:
 class WeakMap:
     """A weak map in a register of a domain, which `Domain.make_map` makes and `Domain.map` finds. It keeps neither its keys nor, for a key
     that nothing else leads to, what the key is bound to. It is a block: domains share one through a field, and use it by these calls
-    alone. Keys and data are in registers below 8; registers 8 to 11 are used between. A call waits for other domains in a pause, and
-    may collect where it lacks room. `NotNow` where there is no room, or others have won each time."""
+    alone. Keys and data are in registers below 8. Keep nothing in registers 8 to 15 meanwhile: `get` and `take` use 8 to 11, the others
+    may empty 8 to 15. A call waits for other domains in a pause, and may collect where it lacks room. Each key that lives takes an
+    ephemeron."""
 
     def __init__(self, domain: "Domain", register: int):
         self._domain, self.register = domain, register
@@ -205,7 +221,9 @@ class WeakMap:
         return self._domain._ask("get", dst, self.register, key)
 
     def put(self, key: int, item: int) -> Reply:
-        """Binds the key in a register to what another holds: `ok`; `full` where there is no room; or `type`."""
+        """Binds the key in a register to what another holds: `ok`, or `type` where the key is no block. Where room is short it sweeps
+        and collects first; then `NoEphemeron` where more keys live than there is room for (one that is bound anew takes a place too),
+        and `NotNow` where there is none for a block. No binding has changed then."""
         return self._domain._walk("bind", self.register, key, item)
 
     def sweep(self) -> Reply:
@@ -219,12 +237,37 @@ class WeakMap:
         return self._domain._walk("clean", self.register)
 
     def count(self) -> Reply:
-        """How many keys are bound: `int`."""
+        """How many keys are bound: `int`, or `type` where the register holds no map. A dead key counts until a collection has found it."""
         return self._domain._walk("count", self.register)
+
+    def __len__(self) -> int:
+        made = self.count()
+        if made.value is None:
+            raise TypeError(f"register {self.register} holds no weak map")
+        return made.value
+
+    def __bool__(self) -> bool:
+        return True
 
     def take(self, key: int) -> Reply:
         """Takes out what the key in a register is bound to: `ok`; `none` where it isn't; or `type`."""
         return self._domain._ask("take", self.register, key)
+
+
+_WATCH = os.environ.get("CAMLHEAP_WATCH")
+
+
+class _Watch:
+    """Says on standard error, once, that a wait has lasted as many seconds as CAMLHEAP_WATCH names."""
+
+    def __init__(self):
+        self._seconds, self._since = _WATCH, time.monotonic()
+
+    def look(self) -> None:
+        if self._seconds and time.monotonic() - self._since >= float(self._seconds):
+            said = f"a domain has waited {self._seconds} seconds for others of its heap"
+            print(f"camlheap: {said}: is each turned by a thread, at rest, or left?", file=sys.stderr)
+            self._seconds = None
 
 
 def _free(library, raw: _c.Domain, bed: _c.Domain) -> None:
@@ -256,6 +299,8 @@ class Domain:
         return self
 
     def __exit__(self, *_) -> None:
+        """Leaves the domain, also behind an exception. Finalisers that haven't run yet are called no more: `finish` at the end of the
+        block, or a `poll` behind a collection, calls them."""
         self.leave()
 
     def leave(self) -> None:
@@ -281,15 +326,18 @@ class Domain:
                 print(f"camlheap: the callable of a finaliser raised, {ran}", file=sys.stderr)
                 traceback.print_exc()
 
-    def _wait(self) -> None:
+    def _wait(self, watch: _Watch) -> None:
+        watch.look()
         if self._library.camlheap_attend(self._bed) != AGAIN:
             time.sleep(0)
 
     def _await(self, told: int, reply: _c.Reply) -> Reply:
         """Goes on with a command until it is made, from what the call that began it has answered."""
+        watch = None
         while told in (AGAIN, WAITING):
             if told == WAITING:
-                self._wait()
+                watch = watch or _Watch()
+                self._wait(watch)
             told = self._library.camlheap_run(self._raw, 64, reply)
         if told != DONE:
             _refuse(told)
@@ -299,9 +347,16 @@ class Domain:
 
     def perform(self, word: str, *numbers: int) -> Reply:
         """Makes a command, and answers its reply, as `perform("load", 3, 1, 0)`. Waits for other domains in a pause. Where an exception
-        comes while it waits, as by ^C, `go_on` answers the reply."""
+        comes while it waits, as by ^C, `go_on` answers the reply. A finaliser's number is below 2**31: the others are those of
+        `finalise`."""
+        command = _command(word, numbers)
+        if command.number >= _CALLED:
+            raise Unfit(19, f"number of {word} can't be {command.number}")
+        return self._make(command)
+
+    def _make(self, command: _c.Command) -> Reply:
         reply = _c.Reply()
-        return self._await(self._library.camlheap_call(self._raw, _command(word, numbers), 64, reply), reply)
+        return self._await(self._library.camlheap_call(self._raw, command, 64, reply), reply)
 
     def go_on(self) -> Reply:
         """Goes on with the command that an exception has interrupted in `perform`, and answers its reply."""
@@ -312,11 +367,13 @@ class Domain:
         return self._await(told, reply)
 
     def _register(self, word: str, call: Callable[[Reply], object], *numbers: int) -> Reply:
+        if not callable(call):
+            raise TypeError(f"a finaliser calls a function, and {call!r} is none")
         number = next(self._numbers)
         self._calls[number] = call
         made = None
         try:
-            made = self.perform(word, numbers[0], number, *numbers[1:])
+            made = self._make(_command(word, (numbers[0], number, *numbers[1:])))
         finally:
             if made != Reply("ok"):
                 self._calls.pop(number, None)
@@ -324,8 +381,9 @@ class Domain:
 
     def finalise(self, item: int, dst: int, call: Callable[[Reply], object]) -> Reply:
         """Has `call` be called with the reply `fin`, on the thread that calls on this domain, once nothing leads to the block in `item`
-        any more; register `dst` holds it again then. Each registration is called once: behind the command, turn or call in which its
-        finaliser ran. `ok`, or `type` where `item` holds no block."""
+        any more; register `dst` holds it again then. A collection only finds that; the finaliser runs before the next command or in a
+        turn, and each registration is called once, behind that. The number in the reply is the wrapper's own. `ok`, or `type` where
+        `item` holds no block."""
         return self._register("finalise", call, item, dst)
 
     def finalise_last(self, item: int, call: Callable[[Reply], object]) -> Reply:
@@ -333,7 +391,8 @@ class Domain:
         return self._register("finalise_last", call, item)
 
     def ran(self) -> list[Reply]:
-        """The finalisers without a callable that have run and weren't told yet, in order. None is lost, in whichever call it ran."""
+        """The finalisers without a callable, which `perform("finalise", ..)` registers, that have run and weren't told yet, in order.
+        None is lost, in whichever call it ran."""
         self._hear()
         found, self._told = self._told, []
         return found
@@ -369,13 +428,14 @@ class Domain:
 
     def _ask_often(self, call: str, registers: tuple[int, ...], reply: _c.Reply) -> int:
         """Asks it a few times, each time behind as many turns as there is something to do for."""
+        watch = _Watch()
         for _ in range(8):
             told = getattr(self._library, f"camlheap_map_{call}")(self._raw, *registers, reply)
             if told != AGAIN:
                 break
             while (turned := self._library.camlheap_turn(self._raw)) in (AGAIN, WAITING):
                 if turned == WAITING:
-                    self._wait()
+                    self._wait(watch)
         return told
 
     def make_map(self, dst: int) -> WeakMap | None:
@@ -383,7 +443,8 @@ class Domain:
         return WeakMap(self, dst) if self._ask("make", dst).kind == "blk" else None
 
     def map(self, register: int) -> WeakMap:
-        """The weak map in a register below 8, which this domain or another has made."""
+        """The weak map in a register below 8, which this domain or another has made. The register isn't looked at: where it holds no
+        map, `get` and `take` answer `none`, and `put` raises `NotNow`; `count` and `sweep` tell, by `type`."""
         return WeakMap(self, register)
 
     def show(self, register: int) -> Reply:
@@ -436,7 +497,8 @@ class Domain:
         _free(self._library, self._raw, self._bed)
 
     def rest(self) -> None:
-        """Lets others turn the domain where they wait for it, until `resume`. It can do nothing else meanwhile."""
+        """Lets others turn the domain where they wait for it, until `resume`; it can do nothing else meanwhile. A thread that blocks
+        elsewhere, on a lock, a barrier, a queue, a `join` or a `sleep`, does so first: else the others wait for it in their next pause."""
         while told := self._library.camlheap_rest(self._raw, self._bed):
             time.sleep(0) if told == AGAIN else _refuse(told)
 
@@ -446,16 +508,28 @@ class Domain:
             time.sleep(0) if told == AGAIN else _refuse(told)
         self._hear()
 
+    @contextmanager
+    def resting(self) -> Iterator[None]:
+        """Rests while the block of a `with` goes on, as `with domain.resting(): barrier.wait()`."""
+        self.rest()
+        try:
+            yield
+        finally:
+            self.resume()
+
     def finish(self) -> None:
         """Closes the domain, turns it until all have ended, and frees it."""
         self.close()
+        watch = _Watch()
         while not self.turn():
-            self._wait()
+            self._wait(watch)
         self.free()
 
 
 def start(domains: int = 1, minor_words: int = 4096, pools: int = 64, finals: int = 16, ephes: int = 64) -> list[Domain]:
-    """Starts a heap, and answers its domains in order. `camlheap.h` says in which range each number is."""
+    """Starts a heap, and answers its domains in order. It has so many domains, words in the minor area of each, pools of 4096 words,
+    and in each domain room for so many finalisers that are registered or wait, and for so many ephemerons, and so for living keys of
+    weak maps (`Outside.RANGES`). The room without a number is for a trial: 16 finalisers, and 64 keys."""
     numbers = (domains, minor_words, pools, finals, ephes)
     wrong = [place for place, number in enumerate(numbers) if not _fits(number, _c.U32)]
     if wrong or domains > 8:

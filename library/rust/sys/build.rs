@@ -25,7 +25,7 @@ fn main() {
         None => [Some(here.join("../../out")), installed()].into_iter().flatten().find(|it| has_archive(it)),
     };
     let Some(folder) = folder else {
-        println!("cargo::error=there is no libcamlheap.a: `make -C library` or `make -C library install` makes it, or CAMLHEAP_LIB_DIR names its folder");
+        println!("cargo::error=no libcamlheap.a was found: `make -C library` makes it; of one that is installed below PREFIX CAMLHEAP_LIB_DIR=PREFIX/lib or PKG_CONFIG_PATH=PREFIX/lib/pkgconfig tells");
         return;
     };
     println!("cargo::rerun-if-changed={}", folder.join("libcamlheap.a").display());
