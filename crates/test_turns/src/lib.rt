@@ -6,8 +6,6 @@ mod drives;
 #[cfg(test)]
 mod fixtures;
 #[cfg(test)]
-mod plays;
-#[cfg(test)]
 mod scenes;
 #[cfg(test)]
 mod slices;
