@@ -1,5 +1,5 @@
-//! The most general client: a heap whose domains are played by whoever chooses, and one history that has what all of
-//! them were told.
+//! Domains in one hand, each with a log of its calls: one legal history has of each just what its log says, whatever
+//! their clients choose. No clause says that a client's move is made.
 #![tactic(auto)]
 
 mod log;
