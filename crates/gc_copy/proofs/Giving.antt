@@ -1,15 +1,16 @@
 -- Places that are given back.
-use Rattle.std.proofs.Common.{refl, ◌≡◌, ℕ, ◌<◌, Some, None, sym, subst, ◌⊎◌, inl, inr, ⊎_elim, set, get_or-set_same, get_or-set_other, Option, ◌≤◌, ◌+◌, arith, ap, ◌∙◌, length, List, ◌≢◌}
+use Rattle.std.proofs.Common.{refl, ◌≡◌, ℕ, ◌<◌, Some, None, sym, subst, set, get_or-set_same, get_or-set_other, Option, ◌≤◌, ◌+◌, arith, ap, ◌∙◌, length, List, ◌≢◌}
 use Rattle.model_core.specs.Domains.{class_count}
 use Rattle.heap_rule.specs.declared.config.Config.{Config}
+use Rattle.heap_rule.specs.declared.view.Search.{Search}
 use Rattle.heap_rule.specs.declared.view.Spot.{Spot}
 use Rattle.heap_rule.specs.declared.view.DomainView.{DomainView}
-use Rattle.heap_rule.specs.Pools.{prepared_at, spot_at, IsBefore}
+use Rattle.heap_rule.specs.Pools.{prepared_at, freed_at, search_at}
 use Rattle.step_promote.specs.Claims.{FreeMay, freed, FreedTold}
 use Rattle.gc_copy.specs.Working.{with_claims}
 use Rattle.gc_copy.specs.Sharing.{Gives}
 use mathlib.Core.Logic.{dite}
-use native.Mathlib.Decide.{ℕ_discrete, dec_le}
+use native.Mathlib.Decide.{ℕ_discrete}
 
 module _ (k : Config) (class a : ℕ) (x y : DomainView) (few : class < class_count) (g : Gives k class x y) (here : prepared_at y.own.prepared class ≡ Some a) where
   pub free_may : (spot : Spot) → spot ≡ record { pool = (g.placed class a few here).pool; slot = (g.placed class a few here).slot } → FreeMay y a spot.pool class spot.slot
@@ -17,7 +18,7 @@ module _ (k : Config) (class a : ℕ) (x y : DomainView) (few : class < class_co
       subst (λ (s : Spot). FreeMay y a s.pool class s.slot) (sym is) record { stage = g.stage; at_rest = g.at_rest; of_class = few; prepared = here; word = p.address; inside = p.below }
 
 -- a place is given back
-pub gives_next : (k : Config) (class : ℕ) (x y z : DomainView) (looked : List Spot) → class < class_count → length y.own.prepared ≡ class_count → Gives k class x y → z ≡ freed y class looked → Gives k (class + 1) x z
+pub gives_next : (k : Config) (class : ℕ) (x y z : DomainView) (looked : List Search) → class < class_count → length y.own.prepared ≡ class_count → Gives k class x y → z ≡ freed y class looked → Gives k (class + 1) x z
 gives_next k class x y z looked few wide g e =
     let f : z ≡ freed (with_claims x y) class looked = e ∙ ap (λ (v : DomainView). freed v class looked) g.view in
     let prepared : (c : ℕ) → prepared_at z.own.prepared c ≡ prepared_at (set y.own.prepared class None) c = (λ c. ap (λ (v : DomainView). prepared_at v.own.prepared c) e) in
@@ -36,22 +37,9 @@ gives_next k class x y z looked few wide g e =
       no_place : (a : ℕ) → ◌≡◌ {A = Option ℕ} None (Some a) → ⊥
       no_place a h = cc
 
--- whether a place stands before another
-before_cases : (q slot : ℕ) (s : Spot) → IsBefore q slot s ⊎ (IsBefore q slot s → ⊥)
-before_cases q slot s = dite (dec_le (q + 1) s.pool)
-    (λ h. inl (inl (let m : q + 1 ≤ s.pool = h in omega arith)))
-    (λ n. dite (ℕ_discrete q s.pool)
-    (λ e. dite (dec_le (slot + 1) s.slot)
-    (λ h. inl (inr (e, let m : slot + 1 ≤ s.slot = h in omega arith)))
-    (λ m. inr (λ b. ⊎_elim (λ (u : q < s.pool). n (let v : q < s.pool = u in omega arith)) (λ (u : (q ≡ s.pool) × (slot < s.slot)). m (let v : slot < s.slot = u.1 in omega arith)) b)))
-    (λ o. inr (λ b. ⊎_elim (λ (u : q < s.pool). n (let v : q < s.pool = u in omega arith)) (λ (u : (q ≡ s.pool) × (slot < s.slot)). o u.0) b)))
-
--- wherever the search went on from
+-- wherever the search goes on from
 pub gives_freed : (k : Config) (class pool slot new : ℕ) (x y z : DomainView) → class < class_count → length y.own.prepared ≡ class_count → Gives k class x y → FreedTold pool class slot y new z → Gives k (class + 1) x z
-gives_freed k class pool slot new x y z few wide g told = ⊎_elim
-    (λ (h : IsBefore pool slot (spot_at y.own.looked class)). gives_next k class x y z (set y.own.looked class (record { pool = pool; slot = slot })) few wide g (told.earlier h))
-    (λ (h : IsBefore pool slot (spot_at y.own.looked class) → ⊥). gives_next k class x y z y.own.looked few wide g (told.later h))
-    (before_cases pool slot (spot_at y.own.looked class))
+gives_freed k class pool slot new x y z few wide g told = gives_next k class x y z (set y.own.looked class (freed_at pool slot (search_at y.own.looked class))) few wide g told
 
 -- none was prepared
 pub gives_none : (k : Config) (class : ℕ) (x y : DomainView) → Gives k class x y → prepared_at y.own.prepared class ≡ None → Gives k (class + 1) x y

@@ -6,6 +6,7 @@ use Rattle.std.proofs.lemmas.Nat.{div-mul-add}
 use Rattle.model_core.specs.Domains.{class_count}
 use Rattle.heap_rule.specs.declared.config.Config.{Config}
 use Rattle.heap_rule.specs.declared.view.Hunt.TheVariants.{Rests, Fills, Labels, Heads}
+use Rattle.heap_rule.specs.declared.view.Search.{Search}
 use Rattle.heap_rule.specs.declared.view.Spot.{Spot}
 use Rattle.heap_rule.specs.declared.view.DomainView.{DomainView}
 use Rattle.heap_rule.specs.Pools.{size_of, blocks_of, place_in, prepared_at, hunting_below}
@@ -78,7 +79,7 @@ module _ (k : Config) (class a : ℕ) (x t : DomainView) (few : class < class_co
 
   pub prepared_now : (new : ℕ) (y : DomainView) → length x.own.prepared ≡ class_count → PrepareTold a class t new y → Prepared k class x y a
   prepared_now new y wide told =
-      let L : List Spot = t.own.looked in
+      let L : List Search = t.own.looked in
       let y' : DomainView = record { own = record (preparing x.own class (Some a)) { looked = L; swept = record x.own.swept { top = t.own.swept.top } }; seen = record x.seen { hunt = Rests } } in
       let e : y ≡ y' = told ∙ ap (λ (z : DomainView). record { own = preparing z.own class (Some a); seen = record z.seen { hunt = Rests } }) view_is in
       let long : class < length x.own.prepared = subst (λ (n : ℕ). class < n) (sym wide) few in

@@ -7,19 +7,20 @@ use Rattle.heap_words.specs.Remembered.Bounded.{Bounded}
 use Rattle.heap_words.specs.declared.colours.Colours.{Colours}
 use Rattle.heap_rule.specs.declared.view.DomainView.{DomainView}
 use Rattle.heap_rule.specs.declared.view.Reaping.TheVariants.{AtGarbage}
+use Rattle.heap_rule.specs.declared.view.Search.{Search}
 use Rattle.heap_rule.specs.declared.view.Spot.{Spot}
-use Rattle.heap_rule.specs.Pools.{blocks_of, place_in, spot_at}
+use Rattle.heap_rule.specs.Pools.{blocks_of, place_in, first_search, freed_at, place_of, search_at}
 use Rattle.heap_rule.specs.Cycles.{seen_by}
 use Rattle.heap_rule.proofs.Classes.{some_block}
 use Rattle.step_marks.specs.Marking.Looks.{knowing_colours, with_share}
 use Rattle.step_marks.specs.Marking.Marking.{behind}
-use Rattle.step_sweep.specs.Freeing.{FreeMay, Frees, IsColoured, IsNoLater, SweepTold, earlier, freed, passed}
+use Rattle.step_sweep.specs.Freeing.{FreeMay, Frees, IsColoured, IsNoLater, SweepTold, freed, passed}
 use Rattle.model_core.specs.Domains.{IsWithinLimits, class_count}
 use Rattle.heap_rule.specs.declared.config.Config.{Config}
 use Rattle.heap_rule.specs.Limits.{sizes_in}
 use Rattle.step_marks.proofs.OfMarking.WalkSteps.{next_behind}
 use Rattle.step_sweep.proofs.CountSteps.{here_behind}
-use Rattle.step_sweep.proofs.Earlier.{before_other, order_of}
+use Rattle.step_sweep.proofs.Earlier.{before_other, freed_no_later}
 use Rattle.gc_sweep.specs.Pruning.{Shortens, with_pruned}
 use Rattle.gc_sweep.specs.Sweeping.{IsSweeping, LooksAgain, Onward, Sweeps, SweepsAt, Swept, SweptAll, SweptOn, SweptPlace, with_sweep}
 use Rattle.gc_sweep.specs.Walks.{IsWalk}
@@ -73,10 +74,10 @@ walk_forward a (s ∷ ss) b w =
     (⊎_elim (λ (h : p < v). inl h) (λ (h : (p ≡ v) × (q < j)). inr (h.0, let l = h.1 in let g : q ≤ j = omega arith in g)) w.1)
 
 pub looks_still : (x : DomainView) → LooksAgain x x
-looks_still x class = no_later (spot_at x.own.looked class)
+looks_still x class = no_later (place_of (search_at x.own.looked class))
 
 pub looks_twice : (x y z : DomainView) → LooksAgain x y → LooksAgain y z → LooksAgain x z
-looks_twice x y z a b class = later_still (spot_at z.own.looked class) (spot_at y.own.looked class) (spot_at x.own.looked class) (b class) (a class)
+looks_twice x y z a b class = later_still (place_of (search_at z.own.looked class)) (place_of (search_at y.own.looked class)) (place_of (search_at x.own.looked class)) (b class) (a class)
 
 -- where nothing is swept the sweep stays, or goes on in another pool
 pub swept_none : (x y : DomainView) → y.seen.share.swept ≡ x.seen.share.swept → IsNoLater x.own.swept.spot y.own.swept.spot → SweptOn x y 0
@@ -133,18 +134,14 @@ module _ (pool class slot : ℕ) (x : DomainView) (next : SweepsAt x pool class 
   abbrev found : DomainView
   found = with_share x (record x.seen.share { reaping = AtGarbage pool class slot })
 
-  -- where the search for a free place begins
-  looked_earlier : (l : List Spot) (c : ℕ) → IsNoLater (spot_at (set l class (earlier (record { pool = pool; slot = slot }) (spot_at l class))) c) (spot_at l c)
+  -- how far it was looked for a free place
+  looked_earlier : (l : List Search) (c : ℕ) → IsNoLater (place_of (search_at (set l class (freed_at pool slot (search_at l class))) c)) (place_of (search_at l c))
   looked_earlier l c =
-      let here : Spot = record { pool = pool; slot = slot } in
-      let new : Spot = earlier here (spot_at l class) in dite (ℕ_discrete c class)
-      (λ same. subst (λ (n : ℕ). IsNoLater (spot_at (set l class new) n) (spot_at l n)) (sym same) (dite (dec_le (length l) class)
-      (λ past. subst (λ (m : List Spot). IsNoLater (spot_at m class) (spot_at l class)) (sym (set_past l class new past)) (no_later (spot_at l class)))
-      (λ within. subst (λ (s : Spot). IsNoLater s (spot_at l class)) (sym (get_or-set_same l class new (record { pool = 0; slot = 0 }) (lt_of_not-le within))) (⊎_elim
-      (λ h. subst (λ (s : Spot). IsNoLater s (spot_at l class)) (sym h.0) h.1)
-      (λ h. subst (λ (s : Spot). IsNoLater s (spot_at l class)) (sym h.0) (no_later (spot_at l class)))
-      (order_of here (spot_at l class))))))
-      (λ other. subst (λ (s : Spot). IsNoLater s (spot_at l c)) (sym (get_or-set_other l class c new (record { pool = 0; slot = 0 }) other)) (no_later (spot_at l c)))
+      let new : Search = freed_at pool slot (search_at l class) in dite (ℕ_discrete c class)
+      (λ same. subst (λ (n : ℕ). IsNoLater (place_of (search_at (set l class new) n)) (place_of (search_at l n))) (sym same) (dite (dec_le (length l) class)
+      (λ past. subst (λ (m : List Search). IsNoLater (place_of (search_at m class)) (place_of (search_at l class))) (sym (set_past l class new past)) (no_later (place_of (search_at l class))))
+      (λ within. subst (λ (s : Search). IsNoLater (place_of s) (place_of (search_at l class))) (sym (get_or-set_same l class new first_search (lt_of_not-le within))) (freed_no_later pool slot (search_at l class)))))
+      (λ other. subst (λ (s : Search). IsNoLater (place_of s) (place_of (search_at l c))) (sym (get_or-set_other l class c new first_search other)) (no_later (place_of (search_at l c))))
 
   -- garbage was there, and was freed
   pub swept_dirty : (y z : DomainView) → y ≡ found → z ≡ freed pool class slot y → SweptPlace pool class slot x z

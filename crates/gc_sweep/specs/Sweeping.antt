@@ -7,7 +7,7 @@ use Rattle.heap_rule.specs.declared.view.DomainView.{DomainView}
 use Rattle.heap_rule.specs.declared.view.Hunt.TheVariants.{Rests}
 use Rattle.heap_rule.specs.declared.view.Reaping.TheVariants.{Inside}
 use Rattle.heap_rule.specs.declared.view.Spot.{Spot}
-use Rattle.heap_rule.specs.Pools.{blocks_of, spot_at}
+use Rattle.heap_rule.specs.Pools.{blocks_of, place_of, search_at}
 use Rattle.step_marks.specs.Marking.Marking.{behind}
 use Rattle.step_sweep.specs.Freeing.{Frees, IsNoLater}
 use Rattle.gc_sweep.specs.Pruning.{IsPruned, Shortens}
@@ -38,7 +38,7 @@ with_sweep x y = record x {
 
 -- the next search for a free place of a class begins where it would have begun before, or earlier
 abbrev pub LooksAgain : DomainView → DomainView → Type 0
-LooksAgain x y = (class : ℕ) → IsNoLater (spot_at y.own.looked class) (spot_at x.own.looked class)
+LooksAgain x y = (class : ℕ) → IsNoLater (place_of (search_at y.own.looked class)) (place_of (search_at x.own.looked class))
 
 -- so many places were swept, each of them once, and no place before the next one that wasn't in an own pool
 pub record SweptOn (x y : DomainView) (count : ℕ) : Type 0 where

@@ -7,7 +7,7 @@ use Rattle.heap_rule.specs.declared.config.Config.{Config}
 use Rattle.heap_rule.specs.declared.view.Copied.{Copied}
 use Rattle.heap_rule.specs.declared.view.Finalisers.{Finalisers}
 use Rattle.heap_rule.specs.declared.view.Own.{Own}
-use Rattle.heap_rule.specs.declared.view.Spot.{Spot}
+use Rattle.heap_rule.specs.declared.view.Search.{Search}
 use Rattle.heap_rule.specs.declared.view.Swept.{Swept}
 use Rattle.heap_rule.specs.declared.view.TheConstants.{REMEMBERED_ROOM}
 use Rattle.heap_rule.specs.Finalisers.{FinalisersFit}
@@ -16,7 +16,7 @@ use Rattle.heap_rule.specs.Token.{AllInHeap, Holds, LooksWithin, OwnFits, SweptW
 
 module _ (k : Config) (own : Own) where
   -- with other parts that a collection of young blocks or a sweep may change
-  pub fits_with : (looked : List Spot) (prepared : List (Option ℕ)) (pending : Bounded Copied) (ephemerons : Bounded ℕ) (swept : Swept) → LooksWithin k looked → length prepared ≡ class_count → pending.room + length pending.items ≡ pending_room k → AllInHeap k ephemerons.items → SweptWithin k swept → OwnFits k own
+  pub fits_with : (looked : List Search) (prepared : List (Option ℕ)) (pending : Bounded Copied) (ephemerons : Bounded ℕ) (swept : Swept) → LooksWithin k looked → length prepared ≡ class_count → pending.room + length pending.items ≡ pending_room k → AllInHeap k ephemerons.items → SweptWithin k swept → OwnFits k own
       → OwnFits k (record own { looked = looked; prepared = prepared; pending = pending; ephemerons = ephemerons; swept = swept })
   fits_with looked prepared pending ephemerons swept looks wide few listed within fits = record {
     number = fits.number;
@@ -32,7 +32,7 @@ module _ (k : Config) (own : Own) where
     swept = within;
   }
 
-  pub looked_fits : (looked : List Spot) → LooksWithin k looked → OwnFits k own → OwnFits k (record own { looked = looked })
+  pub looked_fits : (looked : List Search) → LooksWithin k looked → OwnFits k own → OwnFits k (record own { looked = looked })
   looked_fits looked looks fits = fits_with looked own.prepared own.pending own.ephemerons own.swept looks fits.prepared fits.pending fits.ephemerons fits.swept fits
 
   pub prepared_fits : (prepared : List (Option ℕ)) → length prepared ≡ class_count → OwnFits k own → OwnFits k (record own { prepared = prepared })

@@ -29,7 +29,7 @@ use Rattle.heap_rule.specs.declared.config.Config.{Config}
 use Rattle.heap_rule.specs.declared.view.DomainView.{DomainView}
 use Rattle.heap_rule.specs.declared.view.Hunt.{Hunt}
 use Rattle.heap_rule.specs.declared.view.Listing.{Listing}
-use Rattle.heap_rule.specs.declared.view.Spot.{Spot}
+use Rattle.heap_rule.specs.declared.view.Search.{Search}
 use Rattle.heap_rule.specs.declared.view.View.{View}
 use Rattle.heap_rule.specs.Limits.{sizes_in}
 use Rattle.heap_rule.specs.Layout.{before_heap, barrier, plan, ended_word, listed, cursor, listed_pool, owner_of, want}
@@ -57,7 +57,7 @@ use Rattle.model_cycle.specs.Beside.{Snapshot}
 use Rattle.heap_rule.specs.Room.{spent_stock, count, drawn_in_all, copied_words, Room, IsUnused, Opened, Drawable}
 use Rattle.model_core.specs.Domains.{class_count, reserve}
 use Rattle.heap_rule.specs.Layout.{heap_words, at_address, table_words}
-use Rattle.heap_rule.specs.Pools.{Holder, Stock, Reserved, IsListWhole, IsReturning, KnowsList, Covered, Takes, IsCopying, Latest, DrawsFor, prepared_at, size_of, Tenancy, drawn, owned, Pools, Grid, Drawers, IsLeading, Lists, Resting, Hunts, Hunter, drawn_in, hunting_below, spot_at, IsBefore, IsFree, limit_of}
+use Rattle.heap_rule.specs.Pools.{Holder, Stock, Reserved, IsListWhole, IsReturning, KnowsList, Covered, Takes, IsCopying, Latest, DrawsFor, prepared_at, size_of, Tenancy, drawn, owned, Pools, Grid, Drawers, IsLeading, Lists, Resting, Hunts, Hunter, drawn_in, hunting_below, search_at, IsPassed, IsFree, limit_of}
 use Rattle.heap_rule.specs.Standing.{with_front}
 use Rattle.heap_rule.specs.Ephemerons.{IsEpheAt, Listed}
 use Rattle.heap_rule.specs.declared.view.Finalisers.{Finalisers}
@@ -454,7 +454,7 @@ hunter_as k t words x y number hunt looked free spare prepared pending h = recor
   spare = λ z e. subst (λ (d : ℕ). IsFree k t.holder words d z) (sym number) (h.spare z (sym spare ∙ e));
   hunt = subst (λ (z : ℕ × Hunt). Hunts k t words z.0 z.1) (λ i. (sym number i, sym hunt i)) h.hunt;
   drawn_alone = λ q e. ap drawn_in hunt ∙ h.drawn_alone q (e ∙ ap drawn number);
-  taken = λ q c slot e inside low. h.taken q c slot (e ∙ ap (λ (d : ℕ). owned d c) number) inside (subst (λ (l : List Spot). IsBefore q slot (spot_at l c)) looked low);
+  taken = λ q c slot e inside low. h.taken q c slot (e ∙ ap (λ (d : ℕ). owned d c) number) inside (subst (λ (l : List Search). IsPassed q slot (search_at l c)) looked low);
   holds = λ c a few e. let u = h.holds c a few (ap (λ (l : List (Option ℕ)). prepared_at l c) (sym prepared) ∙ e) in (u.0 ∙ ap Some (sym number), (u.1.0, u.1.1, u.1.2 ∙ ap (λ (d : ℕ). owned d c) (sym number), u.1.3, u.1.4));
   prepared = λ q c slot is inside e. ap (λ (l : List (Option ℕ)). prepared_at l c) prepared ∙ h.prepared q c slot (is ∙ ap (λ (d : ℕ). owned d c) number) inside (e ∙ ap Some number);
   claims = pending ∙ (h.claims ∙ ap t.stock.claims (sym number));
@@ -1013,7 +1013,7 @@ module _ (k : Config) (s : Words) (r : Rule k s) (id : ℕ) (hist : List Entry) 
       })
 
   -- What a step owes that changes the holders of pools or what the domain knows of them. No entry stands and nothing comes to live or moves. A pool becomes the domain's own below the top alone
-  pub record Holds (top : ℕ) (looked : List Spot) (hunt : Hunt) (free : List ℕ) (words' : List ℕ) (t' : Tenancy) : Type 0 where
+  pub record Holds (top : ℕ) (looked : List Search) (hunt : Hunt) (free : List ℕ) (words' : List ℕ) (t' : Tenancy) : Type 0 where
     pub takes : Takes x.seen.stage
     pub known_free : x.seen.stage ≢ In Run → free ≡ []
     pub wide : length words' ≡ length s.words
@@ -1040,7 +1040,7 @@ module _ (k : Config) (s : Words) (r : Rule k s) (id : ℕ) (hist : List Entry) 
     pub higher : x.own.swept.top ≤ top
     pub gained : (q d c : ℕ) → t'.holder q ≡ owned d c → (r.account.tenancy.holder q ≡ owned d c) ⊎ ((d ≡ x.own.number) × (q < top))
 
-  pub holds_again : (top : ℕ) (looked : List Spot) (hunt : Hunt) (free : List ℕ) (words' : List ℕ) (t' : Tenancy) → Holds top looked hunt free words' t' → Rule k record { words = words'; homes = s.homes; views = set s.views id (one k hist (hunting_below x top looked hunt free)) }
+  pub holds_again : (top : ℕ) (looked : List Search) (hunt : Hunt) (free : List ℕ) (words' : List ℕ) (t' : Tenancy) → Holds top looked hunt free words' t' → Rule k record { words = words'; homes = s.homes; views = set s.views id (one k hist (hunting_below x top looked hunt free)) }
   holds_again top looked hunt free words' t' o =
       let own_making = o.makings x my_good.making in
       let in_kind = takes_kind x.seen.stage o.takes in

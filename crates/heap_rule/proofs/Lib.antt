@@ -17,6 +17,7 @@ pub mod Advancing
 pub mod Classes
 pub mod Counting
 pub mod Looks
+pub mod Searches
 pub mod Lots
 pub mod Again
 pub mod FullnessLemmas

@@ -6,8 +6,8 @@ use Rattle.heap_words.specs.declared.value.Value.{Value}
 use Rattle.heap_words.specs.declared.value.Value.TheVariants.{Ref, Nothing}
 use Rattle.heap_words.specs.Values.{IsPackable}
 use Rattle.heap_rule.specs.declared.config.Config.{Config}
-use Rattle.heap_rule.specs.declared.view.Spot.{Spot}
-use Rattle.heap_rule.specs.Pools.{blocks_of}
+use Rattle.heap_rule.specs.declared.view.Search.{Search}
+use Rattle.heap_rule.specs.Pools.{blocks_of, first_search}
 use Rattle.heap_rule.specs.Changes.{value_at}
 use Rattle.heap_rule.specs.Layout.{heap_words}
 use Rattle.heap_rule.specs.Limits.{sizes_in}
@@ -24,10 +24,7 @@ use Rattle.heap_rule.proofs.Classes.{some_block}
 use Rattle.heap_rule.proofs.Lists.{no_item}
 use Rattle.heap_rule.proofs.Sizes.{heap_large}
 
-abbrev nowhere : Spot
-nowhere = record { pool = 0; slot = 0 }
-
-nowhere_at : (n c : ℕ) → get_or (replicate n nowhere) c nowhere ≡ nowhere
+pub nowhere_at : (n c : ℕ) → get_or (replicate n first_search) c first_search ≡ first_search
 nowhere_at zero c = refl
 nowhere_at (suc n) zero = refl
 nowhere_at (suc n) (suc c) = nowhere_at n c
@@ -35,10 +32,10 @@ nowhere_at (suc n) (suc c) = nowhere_at n c
 some_pool : (k : Config) → IsWithinLimits (sizes_in k) → 1 ≤ k.pools
 some_pool k limits = let p = limits.some_pools in omega arith
 
-pub looks_first : (k : Config) → LooksWithin k (replicate class_count (record { pool = 0; slot = 0 }))
+pub looks_first : (k : Config) → LooksWithin k (replicate class_count first_search)
 looks_first k = record {
   wide = refl;
-  within = λ c few. subst (λ (s : Spot). (s.pool ≤ k.pools) × (s.slot < blocks_of c)) (sym (nowhere_at class_count c)) (omega arith, (some_block c few).0);
+  within = λ c few. subst (λ (s : Search). (s.pool ≤ k.pools) × (s.slot < blocks_of c)) (sym (nowhere_at class_count c)) (omega arith, (some_block c few).0);
 }
 
 -- the registers at the start

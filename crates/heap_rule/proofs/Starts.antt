@@ -17,7 +17,6 @@ use Rattle.heap_words.specs.declared.value.Value.TheVariants.{Int as IntWord, Re
 use Rattle.heap_rule.specs.declared.config.Config.{Config}
 use Rattle.heap_rule.specs.declared.view.DomainView.{DomainView}
 use Rattle.heap_rule.specs.declared.view.Spare.{Spare}
-use Rattle.heap_rule.specs.declared.view.Spot.{Spot}
 use Rattle.heap_rule.specs.declared.view.View.{View}
 use Rattle.heap_rule.specs.Limits.{sizes_in}
 use Rattle.heap_rule.specs.Layout.{heap_words, listed_pool, owner_of, listed, cursor}
@@ -25,12 +24,14 @@ use Rattle.heap_rule.specs.Places.{Place, Live, extent, Stands, Found, Fits, Pla
 use Rattle.heap_rule.specs.Changes.{value_at}
 use Rattle.heap_rule.specs.declared.phase.Kind.TheVariants.{Run, Promote}
 use Rattle.heap_rule.specs.Phases.{Pause, sum_of, is_over, flag}
+use Rattle.heap_rule.proofs.Looks.{nowhere_at}
+use Rattle.heap_rule.proofs.Searches.{none_passed}
 use Rattle.heap_rule.proofs.Growing.{grows_none}
 use Rattle.heap_rule.proofs.FinaliserLemmas.{enrolled_none, deciding_none}
 use Rattle.heap_rule.proofs.Keeps.{sum_same, run_leads, copies_settled, room_unused}
 use Rattle.heap_rule.specs.Views.{no_finalisers, EachView, AllDomains, Distinct, IsSeated, Knows, opening_view, opening_views, first_spare, first_view}
 use Rattle.heap_rule.specs.Rule.{Stood, Area, Account, Good, Whole, Rule}
-use Rattle.heap_rule.specs.Pools.{no_stock, IsPlace, IsFree, Holder, nobody, drawn, owned, owner_word, Tenancy, Pools, Lot, Grid, place_in, size_of, blocks_of, IsBefore}
+use Rattle.heap_rule.specs.Pools.{no_stock, IsPlace, IsFree, Holder, nobody, drawn, owned, owner_word, Tenancy, Pools, Lot, Grid, place_in, size_of, blocks_of, IsPassed}
 use Rattle.heap_rule.proofs.OwnPlaces.{owned_same}
 use Rattle.heap_rule.specs.Opening.{IsOpening, first_colours}
 use Rattle.heap_rule.proofs.Update.{over, over_here, over_else}
@@ -89,14 +90,6 @@ none_drawn q d e = dite (ℕ_discrete q 0)
 sum_zero : (n : ℕ) → sum_of (λ _. 0) n ≡ 0
 sum_zero zero = refl
 sum_zero (suc n) = let e = sum_zero n in omega arith
-
-abbrev nowhere : Spot
-nowhere = record { pool = 0; slot = 0 }
-
-get_zero : (n c : ℕ) → get_or (replicate n nowhere) c nowhere ≡ nowhere
-get_zero zero c = refl
-get_zero (suc n) zero = refl
-get_zero (suc n) (suc c) = get_zero n c
 
 views_later : (k : Config) (P : DomainView → Type 0) (d n : ℕ) → ((i : ℕ) → d ≤ i → i < d + n → P (opening_view k i)) → AllDomains P (opening_views k d n)
 views_later k P d zero f = tt
@@ -398,7 +391,7 @@ module _ (k : Config) (limits : IsWithinLimits (sizes_in k)) (words : List ℕ) 
             prepared = λ q c slot is inside e. absurd (no_spare (place_in q c slot) x e);
             claims = refl;
             supply = λ c few some. absurd (let h : 0 < 0 = some in omega arith);
-            taken = λ q c slot e inside low. absurd (⊎_elim (λ (h : q < 0). omega arith) (λ (h : (q ≡ 0) × (slot < 0)). let l = h.1 in omega arith) (subst (λ (m : Spot). IsBefore q slot m) (get_zero class_count c) low));
+            taken = λ q c slot e inside low. absurd (none_passed q slot (subst (IsPassed q slot) (nowhere_at class_count c) low));
           };
           resting = record { hunt = λ n. refl; free = λ n. refl; spare = λ n. absurd (n refl); lists = λ l e. cc };
           took_back = λ kind leads last. absurd (run_leads kind leads);

@@ -1,5 +1,5 @@
 -- The pools: who has each, where their blocks lie, and what a domain that takes one of their blocks knows.
-use Rattle.std.specs.Prelude.{Bool, false, IsTrue, ◌≡◌, ◌≢◌, ℕ, ◌+◌, ◌*◌, ◌-◌, ◌/◌, ◌<◌, ◌≤◌, ◌⊎◌, List, [], length, slice_index, slice_index_or, slice_get, Option, Some, None, true}
+use Rattle.std.specs.Prelude.{Bool, false, true, if◌then◌else◌, nat_lt, ◌==◌, ◌&&◌, ◌||◌, IsTrue, ◌≡◌, ◌≢◌, ℕ, ◌+◌, ◌*◌, ◌-◌, ◌/◌, ◌<◌, ◌≤◌, ◌⊎◌, List, [], length, slice_index, slice_index_or, slice_get, Option, Some, None}
 use Rattle.heap_words.specs.declared.classes.TheConstants.{SIZES}
 use Rattle.model_core.specs.Domains.{class_count, reserve}
 use Rattle.heap_rule.specs.declared.config.Config.{Config}
@@ -7,6 +7,7 @@ use Rattle.heap_rule.specs.declared.view.Hunt.{Hunt}
 use Rattle.heap_rule.specs.declared.view.Listing.{Listing}
 use Rattle.heap_rule.specs.declared.view.Hunt.TheVariants.{Rests, Counts, Asks, Draws, Walks, Fills, Labels, Heads}
 use Rattle.heap_rule.specs.declared.view.Spare.{Spare}
+use Rattle.heap_rule.specs.declared.view.Search.{Search}
 use Rattle.heap_rule.specs.declared.view.Spot.{Spot}
 use Rattle.heap_rule.specs.declared.view.DomainView.{DomainView}
 use Rattle.heap_rule.specs.declared.phase.Kind.{Kind}
@@ -168,12 +169,28 @@ Hunts k t words d (Fills pool class slot made) = Filling k t.holder words d pool
 Hunts k t words d (Labels address label) = (t.prepared address ≡ Some d) × OwnPlace t.holder address d × (at_address k words (address + 1) ≡ label)
 Hunts k t words d (Heads address label head) = (t.prepared address ≡ Some d) × OwnPlace t.holder address d × (at_address k words (address + 1) ≡ label) × (at_address k words address ≡ head)
 
--- the place of a class to which a domain has looked, and the places before it
-abbrev pub spot_at : List Spot → ℕ → Spot
-spot_at looked class = slice_index_or looked class (record { pool = 0; slot = 0 })
+-- before it looks at any place
+abbrev pub first_search : Search
+first_search = record { pool = 0; slot = 0; only = false }
+
+-- how far a domain has looked for a free place of a class
+abbrev pub search_at : List Search → ℕ → Search
+search_at looked class = slice_index_or looked class first_search
+
+-- the place to which it has looked
+abbrev pub place_of : Search → Spot
+place_of s = record { pool = s.pool; slot = s.slot }
 
 abbrev pub IsBefore : ℕ → ℕ → Spot → Type 0
 IsBefore q slot spot = (q < spot.pool) ⊎ ((q ≡ spot.pool) × (slot < spot.slot))
+
+-- a place of an own pool that is known not to be free: it stands before the one to which the domain has looked, or in a pool behind the only one that may have a free place
+abbrev pub IsPassed : ℕ → ℕ → Search → Type 0
+IsPassed q slot s = IsBefore q slot (place_of s) ⊎ ((s.only ≡ true) × (s.pool < q))
+
+-- how far it has looked once a place of the class is free again: to that one, if it is earlier. If it lies in another pool, the search's is no longer the only one
+abbrev pub freed_at : ℕ → ℕ → Search → Search
+freed_at pool slot s = if (nat_lt pool s.pool || (pool == s.pool && nat_lt slot s.slot)) then record { pool = pool; slot = slot; only = s.only && (s.pool == pool) } else record { pool = s.pool; slot = s.slot; only = s.only && (s.pool == pool) }
 
 -- a domain hasn't arrived in this phase, in which domains run or copy young blocks
 abbrev pub IsTaking : Pause → ℕ → Type 0
@@ -227,14 +244,14 @@ pub record Resting (k : Config) (words : List ℕ) (x : DomainView) : Type 0 whe
   pub lists : (l : Listing) → x.seen.listing ≡ Some l → Lists k words x.own.number x.seen.stage l
 
 -- the domain with other places looked at, and further on in taking a block
-abbrev pub hunting_free : DomainView → List Spot → Hunt → List ℕ → DomainView
+abbrev pub hunting_free : DomainView → List Search → Hunt → List ℕ → DomainView
 hunting_free x looked hunt free = record x { own = record x.own { looked = looked }; seen = record x.seen { hunt = hunt; free = free } }
 
 -- and with its own pools below this one
-abbrev pub hunting_below : DomainView → ℕ → List Spot → Hunt → List ℕ → DomainView
+abbrev pub hunting_below : DomainView → ℕ → List Search → Hunt → List ℕ → DomainView
 hunting_below x top looked hunt free = record x { own = record x.own { looked = looked; swept = record x.own.swept { top = top } }; seen = record x.seen { hunt = hunt; free = free } }
 
-abbrev pub hunting : DomainView → List Spot → Hunt → DomainView
+abbrev pub hunting : DomainView → List Search → Hunt → DomainView
 hunting x looked hunt = hunting_free x looked hunt x.seen.free
 
 -- the pool that it has drawn
@@ -272,7 +289,7 @@ pub record IsFree (k : Config) (holder : ℕ → Holder) (words : List ℕ) (d :
 pub record Hunter (k : Config) (t : Tenancy) (words : List ℕ) (x : DomainView) : Type 0 where
   pub hunt : Hunts k t words x.own.number x.seen.hunt
   pub drawn_alone : (q : ℕ) → t.holder q ≡ drawn x.own.number → drawn_in x.seen.hunt ≡ Some q
-  pub taken : (q c slot : ℕ) → t.holder q ≡ owned x.own.number c → slot < blocks_of c → IsBefore q slot (spot_at x.own.looked c) → at_address k words (place_in q c slot) ≢ 0
+  pub taken : (q c slot : ℕ) → t.holder q ≡ owned x.own.number c → slot < blocks_of c → IsPassed q slot (search_at x.own.looked c) → at_address k words (place_in q c slot) ≢ 0
   pub spare : (z : Spare) → x.seen.spare ≡ Some z → IsFree k t.holder words x.own.number z
   pub free : (f : ℕ) → last_found x ≡ Some f → (listed words ≤ f + cursor words) × (listed words ≤ f + limit_of k (listed words)) × (f ≤ listed words)
   pub holds : (c a : ℕ) → c < class_count → prepared_at x.own.prepared c ≡ Some a → (t.prepared a ≡ Some x.own.number) × ((q slot : ℕ) × (t.holder q ≡ owned x.own.number c) × (slot < blocks_of c) × (a ≡ place_in q c slot))

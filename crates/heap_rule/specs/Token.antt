@@ -9,11 +9,11 @@ use Rattle.heap_words.specs.Values.{IsPackable}
 use Rattle.heap_rule.specs.declared.config.Config.{Config}
 use Rattle.heap_rule.specs.declared.view.DomainView.{DomainView}
 use Rattle.heap_rule.specs.declared.view.Own.{Own}
-use Rattle.heap_rule.specs.declared.view.Spot.{Spot}
+use Rattle.heap_rule.specs.declared.view.Search.{Search}
 use Rattle.heap_rule.specs.declared.view.Swept.{Swept}
 use Rattle.heap_rule.specs.declared.view.View.{View}
 use Rattle.heap_rule.specs.declared.view.TheConstants.{REMEMBERED_ROOM}
-use Rattle.heap_rule.specs.Pools.{blocks_of, spot_at}
+use Rattle.heap_rule.specs.Pools.{blocks_of, search_at}
 use Rattle.model_core.specs.Domains.{class_count, IsWithinLimits}
 use Rattle.heap_rule.specs.Limits.{sizes_in}
 use Rattle.heap_rule.specs.Layout.{heap_words, base_of}
@@ -52,9 +52,9 @@ pub record Holds (k : Config) (registers : List Value) : Type 0 where
   pub inside : (r a : ℕ) → r < 16 → value_at registers r ≡ Ref a → IsAddress k a
 
 -- how far the places of each size class were looked at lies within the pools
-pub record LooksWithin (k : Config) (looked : List Spot) : Type 0 where
+pub record LooksWithin (k : Config) (looked : List Search) : Type 0 where
   pub wide : length looked ≡ class_count
-  pub within : (class : ℕ) → class < class_count → ((spot_at looked class).pool ≤ k.pools) × ((spot_at looked class).slot < blocks_of class)
+  pub within : (class : ℕ) → class < class_count → ((search_at looked class).pool ≤ k.pools) × ((search_at looked class).slot < blocks_of class)
 
 -- how far the own pools were swept lies within the pools, and so do the pools below which these lie
 pub record SweptWithin (k : Config) (swept : Swept) : Type 0 where

@@ -19,6 +19,7 @@ use Rattle.heap_rule.specs.declared.view.Share.{Share}
 use Rattle.heap_rule.specs.declared.view.Spare.{Spare}
 use Rattle.heap_rule.specs.declared.view.View.{View}
 use Rattle.heap_rule.specs.declared.phase.Kind.TheVariants.{Run}
+use Rattle.heap_rule.specs.Pools.{first_search}
 use Rattle.heap_rule.specs.declared.phase.Progress.{Progress}
 use Rattle.heap_rule.specs.declared.phase.Stage.TheVariants.{In}
 
@@ -97,7 +98,7 @@ opening_view k d = record {
     used = 0;
     serial = 0;
     arrivals = 0;
-    looked = replicate class_count (record { pool = 0; slot = 0 });
+    looked = replicate class_count first_search;
     remembered = record { items = []; room = REMEMBERED_ROOM };
     prepared = replicate class_count None;
     pending = record { items = []; room = pending_room k };

@@ -8,7 +8,7 @@ ghost use Rattle.heap_rule.specs.declared.view.TheConstants.{REMEMBERED_ROOM};
 ghost use Rattle.heap_rule.specs.Items.{items_of};
 ghost use Rattle.heap_rule.specs.Limits.{sizes_in};
 ghost use Rattle.heap_rule.specs.Opening.{opening_token};
-ghost use Rattle.heap_rule.specs.Pools.{blocks_of, prepared_at, spot_at};
+ghost use Rattle.heap_rule.specs.Pools.{blocks_of, prepared_at, search_at};
 ghost use Rattle.heap_rule.specs.Standing.{IsInHeap};
 ghost use Rattle.heap_rule.specs.Token.{IsAddress, SweptWithin, next_address};
 ghost use Rattle.heap_rule.specs.Views.{one, opening_view, pending_room};
@@ -16,7 +16,7 @@ ghost use Rattle.heap_rule.specs.Views.{one, opening_view, pending_room};
 use crate::change::{Item, Part};
 use crate::config::Config;
 use crate::view::{
-    Copied, Finalisers, Own, REMEMBERED_ROOM, Registered, RegisteredLast, Spot, Swept, View,
+    Copied, Finalisers, Own, REMEMBERED_ROOM, Registered, RegisteredLast, Search, Spot, Swept, View,
     Waiting,
 };
 use atomic_table::Seat;
@@ -78,7 +78,11 @@ impl Domain {
                 used: 0,
                 serial: 0,
                 arrivals: 0,
-                looked: [Spot { pool: 0, slot: 0 }; CLASS_COUNT],
+                looked: [Search {
+                    pool: 0,
+                    slot: 0,
+                    only: false,
+                }; CLASS_COUNT],
                 remembered,
                 prepared: [None; CLASS_COUNT],
                 pending,
@@ -134,10 +138,10 @@ impl Domain {
         self.config.pools * POOL_WORDS + area + 1 + self.own.used
     }
 
-    /// The place before which no place of the class in the domain's own pools is free.
-    pub fn looked(&self, class: u32) -> Spot
+    /// How far a free place of the class was looked for in the domain's own pools.
+    pub fn looked(&self, class: u32) -> Search
         requires { class < class_count }
-        ensures value { result ≡ spot_at self.now.view.own.looked class }
+        ensures value { result ≡ search_at self.now.view.own.looked class }
         ensures within { (result.pool ≤ self.now.config.pools) × (result.slot < blocks_of class) }
     {
         self.own.looked[class as usize]

@@ -1,5 +1,6 @@
 //! What a seat at the table knows. No value of `View` is ever made: it exists in contracts alone.
 ghost use Rattle.std.specs.Prelude.{◌≡◌};
+ghost use Rattle.heap_rule.specs.Pools.{freed_at};
 
 use crate::config::Config;
 use crate::phase::{Note, Progress, Stage};
@@ -62,6 +63,34 @@ pub struct Spot {
     pub slot: u32,
 }
 
+/// How far a domain has looked for a free place of a class: no place of its own pools of the class is free before this one, and
+/// where this is the `only` pool, none is in the pools behind it.
+#[derive(Clone, Copy, Debug, PartialEq, Eq)]
+pub struct Search {
+    pub pool: u32,
+    pub slot: u32,
+    pub only: bool,
+}
+
+impl Search {
+    /// How far it has looked once this place of the class is free again: to this one, if that is earlier. Where the place lies
+    /// in another pool, the search's is no longer the only one.
+    pub fn freed(self, pool: u32, slot: u32) -> Search
+        ensures { result ≡ freed_at pool slot self }
+    {
+        let only = self.only && self.pool == pool;
+        if pool < self.pool || (pool == self.pool && slot < self.slot) {
+            Search { pool, slot, only }
+        } else {
+            Search {
+                pool: self.pool,
+                slot: self.slot,
+                only,
+            }
+        }
+    }
+}
+
 /// A place of a pool, for blocks of a class.
 #[derive(Clone, Copy, Debug, PartialEq, Eq)]
 pub struct Spare {
@@ -118,8 +147,8 @@ pub struct Own {
     pub serial: u32,
     /// How often the domain has arrived at the barrier.
     pub arrivals: u64,
-    /// For each size class, the place before which no place of an own pool of the class is free.
-    pub looked: [Spot; CLASS_COUNT],
+    /// For each size class, how far a free place of it was looked for.
+    pub looked: [Search; CLASS_COUNT],
     /// The fields of blocks in pools into which the domain stored addresses of minor areas since its
     /// last collection.
     pub remembered: Remembered,

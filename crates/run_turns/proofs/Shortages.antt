@@ -5,9 +5,9 @@ use Rattle.model_core.specs.declared.command.Command.TheVariants.{Alloc, AllocMa
 use Rattle.heap_rule.specs.declared.config.Config.{Config}
 use Rattle.heap_rule.specs.declared.view.DomainView.{DomainView}
 use Rattle.heap_rule.specs.declared.view.Hunt.TheVariants.{Rests}
-use Rattle.heap_rule.specs.declared.view.Spot.{Spot}
+use Rattle.heap_rule.specs.declared.view.Search.{Search}
 use Rattle.heap_rule.specs.declared.view.Swept.{Swept}
-use Rattle.heap_rule.specs.Pools.{spot_at}
+use Rattle.heap_rule.specs.Pools.{search_at}
 use Rattle.heap_rule.specs.Standing.{Looked, with_front}
 use Rattle.heap_rule.specs.Token.{Token, SharedHeap}
 use Rattle.do_alloc.specs.Pools.Taken.{Sought}
@@ -19,7 +19,7 @@ pub none_still : (k : Config) (words : ℕ) (x y w : DomainView) → w.seen.free
 none_still k words x y w free looked swept n = record {
   free = n.free;
   reserved = record { found = (n.reserved.found.0, free ∙ n.reserved.found.1); few = n.reserved.few };
-  none_free = λ class least. subst (λ (l : List Spot). k.pools ≤ (spot_at l class).pool) (sym looked) (n.none_free class least);
+  none_free = λ class least. subst (λ (l : List Search). k.pools ≤ (search_at l class).pool) (sym looked) (n.none_free class least);
   swept = subst (λ (s : Swept). k.pools ≤ s.spot.pool) (sym swept) n.swept;
 }
 

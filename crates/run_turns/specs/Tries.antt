@@ -21,7 +21,7 @@ use Rattle.heap_rule.specs.declared.config.Config.{Config}
 use Rattle.heap_rule.specs.declared.view.DomainView.{DomainView}
 use Rattle.heap_rule.specs.declared.view.Finalisers.{Finalisers}
 use Rattle.heap_rule.specs.declared.view.Own.{Own}
-use Rattle.heap_rule.specs.declared.view.Spot.{Spot}
+use Rattle.heap_rule.specs.declared.view.Search.{Search}
 use Rattle.heap_words.specs.Remembered.Bounded.{Bounded}
 use Rattle.heap_rule.specs.Places.{class_words}
 use Rattle.heap_rule.specs.Changes.{value_at}
@@ -224,7 +224,7 @@ RefusesAs h old new c collected (Needs want) = ⊥
 RefusesAs h old new c collected NoRoom = (collected ≡ false) × SeesMany h old new
 
 -- how far the places of each size class were then looked at: an allocation in the major heap may look at more of them
-abbrev pub looked_by : Command → Own → Own → List Spot
+abbrev pub looked_by : Command → Own → Own → List Search
 looked_by (AllocMaj dst tag fields) old new = new.looked
 looked_by (Ephe dst keys) old new = new.looked
 looked_by _ old new = old.looked

@@ -11,7 +11,7 @@ use Rattle.heap_rule.specs.declared.config.Config.{Config}
 use Rattle.heap_rule.specs.declared.view.DomainView.{DomainView}
 use Rattle.heap_rule.specs.declared.view.Hunt.{Hunt}
 use Rattle.heap_rule.specs.declared.view.Hunt.TheVariants.{Rests, Counts, Asks, Draws, Walks, Fills, Labels, Heads}
-use Rattle.heap_rule.specs.declared.view.Spot.{Spot}
+use Rattle.heap_rule.specs.declared.view.Search.{Search}
 use Rattle.heap_rule.specs.declared.phase.Kind.{Kind}
 use Rattle.heap_rule.specs.declared.phase.Kind.TheVariants.{Run, Promote}
 use Rattle.heap_rule.specs.declared.phase.Stage.TheVariants.{In}
@@ -20,7 +20,7 @@ use Rattle.heap_rule.specs.Views.{one}
 use Rattle.heap_rule.specs.Room.{Room, IsUnused, drawn_in_all}
 use Rattle.heap_rule.specs.Rule.{Good, state_of, Rule}
 use Rattle.heap_rule.specs.Copies.{Promoting}
-use Rattle.heap_rule.specs.Pools.{Holder, nobody, drawn, owned, owner_word, Stock, Tenancy, Takes, Pools, KeepsReserve, IsTaking, Hunts, Hunter, Latest, DrawsFor, IsBefore, spot_at, drawn_in, hunting, hunting_free, place_in, blocks_of, limit_of, prepared_at}
+use Rattle.heap_rule.specs.Pools.{Holder, nobody, drawn, owned, owner_word, Stock, Tenancy, Takes, Pools, KeepsReserve, IsTaking, Hunts, Hunter, Latest, DrawsFor, IsPassed, search_at, drawn_in, hunting, hunting_free, place_in, blocks_of, limit_of, prepared_at}
 use Rattle.heap_rule.specs.Phases.{Phases, AtStage, sum_of}
 use Rattle.step_pools.specs.Takes.{with_hunt, found_free, HasNoDraw, LeavesSpare, NoneFree}
 use Rattle.heap_rule.proofs.Update.{over, over_here, over_else}
@@ -62,8 +62,8 @@ draws_none c (Labels address label) none is = is
 draws_none c (Heads address label head) none is = is
 
 -- what a domain knows of its pools goes on where it has drawn none, and another hunt is known
-pub hunter_on : (k : Config) (t : Tenancy) (words : List ℕ) (x : DomainView) (looked : List Spot) (h : Hunt) (free : List ℕ) → Hunts k t words x.own.number h → drawn_in x.seen.hunt ≡ None
-    → ((q c slot : ℕ) → t.holder q ≡ owned x.own.number c → slot < blocks_of c → IsBefore q slot (spot_at looked c) → at_address k words (place_in q c slot) ≢ 0)
+pub hunter_on : (k : Config) (t : Tenancy) (words : List ℕ) (x : DomainView) (looked : List Search) (h : Hunt) (free : List ℕ) → Hunts k t words x.own.number h → drawn_in x.seen.hunt ≡ None
+    → ((q c slot : ℕ) → t.holder q ≡ owned x.own.number c → slot < blocks_of c → IsPassed q slot (search_at looked c) → at_address k words (place_in q c slot) ≢ 0)
     → ((f : ℕ) → slice_get free 0 ≡ Some f → (listed words ≤ f + cursor words) × (listed words ≤ f + limit_of k (listed words)) × (f ≤ listed words)) → Hunter k t words x → Hunter k t words (hunting_free x looked h free)
 hunter_on k t words x looked h free knows none taken bounds hunter = record {
   hunt = knows;
@@ -129,8 +129,8 @@ module _ (k : Config) (s : Words) (r : Rule k s) (id : ℕ) (hist : List Entry) 
   leaves_spare z e none =
       let f = hunter.spare z e in
       let inside : z.pool < k.pools = (pools.owned_by z.pool me z.class f.own_is).0 in
-      let full : k.pools ≤ (spot_at x.own.looked z.class).pool = none in
-      let w : ℕ = (spot_at x.own.looked z.class).pool in
+      let full : k.pools ≤ (search_at x.own.looked z.class).pool = none in
+      let w : ℕ = (search_at x.own.looked z.class).pool in
       let before : z.pool < w = omega arith in
       hunter.taken z.pool z.class z.slot f.own_is f.inside (inl before) f.free
 
@@ -162,7 +162,7 @@ module _ (k : Config) (s : Words) (r : Rule k s) (id : ℕ) (hist : List Entry) 
   next_hunter h knows free = hunter_on k t s.words x x.own.looked h x.seen.free knows free hunter.taken hunter.free hunter
 
   -- a step that changes no word, after which domains ask so, and the domain knows more of the pools
-  asks : (asking' : ℕ → ℕ) (looked : List Spot) (h : Hunt) (free : List ℕ) → let t' : Tenancy = record t { asking = asking' } in let y : DomainView = hunting_free x looked h free in (x.seen.stage ≢ In Run → free ≡ []) → Pools k t' s.words → Hunter k t' s.words y
+  asks : (asking' : ℕ → ℕ) (looked : List Search) (h : Hunt) (free : List ℕ) → let t' : Tenancy = record t { asking = asking' } in let y : DomainView = hunting_free x looked h free in (x.seen.stage ≢ In Run → free ≡ []) → Pools k t' s.words → Hunter k t' s.words y
       → ((z : DomainView) → z.own.number ≢ me → Good k r.account s.words z → Hunter k t' s.words z) → Rule k record { words = s.words; homes = s.homes; views = set s.views id (one k hist y) }
   asks asking' looked h free known same own others = let t' : Tenancy = record t { asking = asking' } in holds_again k s r id hist x at x.own.swept.top looked h free s.words t' record {
     higher = low_same x.own.swept.top;
@@ -193,10 +193,10 @@ module _ (k : Config) (s : Words) (r : Rule k s) (id : ℕ) (hist : List Entry) 
   }
 
   -- a load that tells more of the pools, and maybe of how many are free
-  tells : (looked : List Spot) (h : Hunt) (free : List ℕ) → (x.seen.stage ≢ In Run → free ≡ []) → Hunter k t s.words (hunting_free x looked h free) → Rule k record { words = s.words; homes = s.homes; views = set s.views id (one k hist (hunting_free x looked h free)) }
+  tells : (looked : List Search) (h : Hunt) (free : List ℕ) → (x.seen.stage ≢ In Run → free ≡ []) → Hunter k t s.words (hunting_free x looked h free) → Rule k record { words = s.words; homes = s.homes; views = set s.views id (one k hist (hunting_free x looked h free)) }
   tells looked h free known own = asks t.asking looked h free known pools own (λ z _ g. g.hunter)
 
-  pub knows : (looked : List Spot) (h : Hunt) → Hunter k t s.words (hunting x looked h) → Rule k record { words = s.words; homes = s.homes; views = set s.views id (one k hist (hunting x looked h)) }
+  pub knows : (looked : List Search) (h : Hunt) → Hunter k t s.words (hunting x looked h) → Rule k record { words = s.words; homes = s.homes; views = set s.views id (one k hist (hunting x looked h)) }
   knows looked h own = tells looked h x.seen.free known_free own
 
   -- the count of listed pools
@@ -465,7 +465,7 @@ module _ (k : Config) (s : Words) (r : Rule k s) (id : ℕ) (hist : List Entry) 
       filled q is =
           let own = pools.owned_by q me class is in
           let inside : 0 < blocks_of class = (some_block class own.2).0 in
-          let before : IsBefore q 0 (spot_at x.own.looked class) = inl (let z : k.pools ≤ (spot_at x.own.looked class).pool = none_free in let p : q < k.pools = own.0 in omega arith) in
+          let before : IsPassed q 0 (search_at x.own.looked class) = inl (inl (let z : k.pools ≤ (search_at x.own.looked class).pool = none_free in let p : q < k.pools = own.0 in omega arith)) in
           let full_head : at_address k s.words (place_in q class 0) ≢ 0 = hunter.taken q class 0 is inside before in
           let lives : (p : Place) → r.account.live (place_in q class 0) ≡ Some p → HoldsKept (kept_labels (sizes_in k) r.account.log) r.account.homes q = (λ p e. (p.label, r.whole.full.kept (place_in q class 0) p e, r.whole.full.low q me class 0 p is inside e)) in
           ⊎_elim (λ (z : at_address k s.words (place_in q class 0) ≡ 0). absurd (full_head z))

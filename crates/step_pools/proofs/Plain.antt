@@ -9,15 +9,15 @@ use Rattle.heap_rule.specs.declared.config.Config.{Config}
 use Rattle.heap_rule.specs.declared.view.Own.{Own}
 use Rattle.heap_rule.specs.declared.view.DomainView.{DomainView}
 use Rattle.heap_rule.specs.declared.view.Hunt.{Hunt}
-use Rattle.heap_rule.specs.declared.view.Spot.{Spot}
+use Rattle.heap_rule.specs.declared.view.Search.{Search}
 use Rattle.heap_words.specs.declared.value.Value.TheVariants.{Nothing}
 use Rattle.heap_rule.specs.declared.view.Hunt.TheVariants.{Rests}
 use Rattle.heap_rule.specs.Changes.{changed, FitChanges}
 use Rattle.heap_rule.specs.Limits.{sizes_in}
-use Rattle.heap_rule.specs.Pools.{blocks_of, owned, owner_word, limit_of, spot_at, hunting}
+use Rattle.heap_rule.specs.Pools.{blocks_of, owned, owner_word, limit_of, first_search, search_at, hunting}
 use Rattle.heap_rule.specs.Raw.{Closes, StepsOnce}
-use Rattle.step_pools.specs.Writes.{pool_after}
-use Rattle.step_pools.proofs.Tops.{above_within, after_within}
+use Rattle.step_pools.specs.Writes.{pool_behind}
+use Rattle.step_pools.proofs.Tops.{above_within, behind_within}
 use Rattle.heap_words.specs.Remembered.Bounded.{Bounded}
 use Rattle.heap_rule.specs.Token.{AllInHeap, Holds, LooksWithin, OwnFits, next_label}
 use Rattle.heap_rule.proofs.ChangeLemmas.{changed_only}
@@ -77,7 +77,7 @@ keep_look_front k count x found y told = dite (dec_le found (limit_of k count))
     (λ high. front_same x y (ap (λ (z : DomainView). z.seen.front) (told.high (lt_of_not-le high))))
 
 -- a step at which the domain looks to another place
-looking_once : (k : Config) (x y : DomainView) (spots : List Spot) (hunt : Hunt) → y ≡ hunting x spots hunt → StepsOnce k x y
+looking_once : (k : Config) (x y : DomainView) (spots : List Search) (hunt : Hunt) → y ≡ hunting x spots hunt → StepsOnce k x y
 looking_once k x y spots hunt is _ = inl (record {
   front = front_same x y (ap (λ (z : DomainView). z.seen.front) is);
   registers = ap (λ (z : DomainView). z.own.registers) is;
@@ -86,17 +86,17 @@ looking_once k x y spots hunt is _ = inl (record {
 })
 
 -- the places looked at, one of them further on
-looks_set : (k : Config) (own : Own) (class : ℕ) (spot : Spot) → LooksWithin k own.looked → spot.pool ≤ k.pools → spot.slot < blocks_of class → LooksWithin k (set own.looked class spot)
+looks_set : (k : Config) (own : Own) (class : ℕ) (spot : Search) → LooksWithin k own.looked → spot.pool ≤ k.pools → spot.slot < blocks_of class → LooksWithin k (set own.looked class spot)
 looks_set k own class spot l low small = record {
   wide = length-set own.looked class spot ∙ l.wide;
   within = λ c few. dite (ℕ_discrete c class)
-      (λ same. let is : spot_at (set own.looked class spot) c ≡ spot = ap (λ (m : ℕ). spot_at (set own.looked class spot) m) same ∙ get_or-set_same own.looked class spot (record { pool = 0; slot = 0 }) (let w = l.wide in omega arith) in
-      subst (λ (z : Spot). (z.pool ≤ k.pools) × (z.slot < blocks_of c)) (sym is) (low, subst (λ (n : ℕ). spot.slot < blocks_of n) (sym same) small))
-      (λ other. subst (λ (z : Spot). (z.pool ≤ k.pools) × (z.slot < blocks_of c)) (sym (get_or-set_other own.looked class c spot (record { pool = 0; slot = 0 }) other)) (l.within c few));
+      (λ same. let is : search_at (set own.looked class spot) c ≡ spot = ap (λ (m : ℕ). search_at (set own.looked class spot) m) same ∙ get_or-set_same own.looked class spot first_search (let w = l.wide in omega arith) in
+      subst (λ (z : Search). (z.pool ≤ k.pools) × (z.slot < blocks_of c)) (sym is) (low, subst (λ (n : ℕ). spot.slot < blocks_of n) (sym same) small))
+      (λ other. subst (λ (z : Search). (z.pool ≤ k.pools) × (z.slot < blocks_of c)) (sym (get_or-set_other own.looked class c spot first_search other)) (l.within c few));
 }
 
 -- and the token's own data fits again
-pub looking_fits : (k : Config) (x y : DomainView) (class : ℕ) (spot : Spot) → OwnFits k x.own → y.own ≡ looking x.own class spot → spot.pool ≤ k.pools → spot.slot < blocks_of class → OwnFits k y.own
+pub looking_fits : (k : Config) (x y : DomainView) (class : ℕ) (spot : Search) → OwnFits k x.own → y.own ≡ looking x.own class spot → spot.pool ≤ k.pools → spot.slot < blocks_of class → OwnFits k y.own
 looking_fits k x y class spot fits is low small = subst (OwnFits k) (sym is) (looked_fits k x.own (set x.own.looked class spot) (looks_set k x.own class spot fits.looked low small) fits)
 
 -- the pools are few
@@ -108,7 +108,7 @@ owned_closes k x new pool class inside few limits y fits told =
     let own = ap (λ (z : DomainView). z.own) told.view in record {
       can_write = (few_pools k pool limits inside, few);
       written = λ after is. own ∙ sym is;
-      fits = let spot : Spot = record { pool = pool; slot = 0 } in
+      fits = let spot : Search = record { pool = pool; slot = 0; only = true } in
           subst (OwnFits k) (sym own) (fits_with k x.own (set x.own.looked class spot) x.own.prepared x.own.pending x.own.ephemerons (record x.own.swept { top = top_above x.own.swept.top pool }) (looks_set k x.own class spot fits.looked (let i = inside in omega arith) (some_block class few).0) fits.prepared fits.pending fits.ephemerons
           (record { pool = fits.swept.pool; slot = fits.swept.slot; top = above_within k.pools x.own.swept.top pool inside fits.swept.top }) fits);
       once = λ _. inl (record { front = front_same x y (ap (λ (z : DomainView). z.seen.front) told.view); registers = ap (λ (z : DomainView). z.own.registers) told.view; used = ap (λ (z : DomainView). z.own.used) told.view; serial = ap (λ (z : DomainView). z.own.serial) told.view });
@@ -122,15 +122,15 @@ owner_closes k x found pools pool class all inside few limits = subst (λ (n : �
       (λ other. ap (λ (z : DomainView). z.own) (told.other other) ∙ sym (is.other other));
   fits = dite (ℕ_discrete found (owner_word (owned x.own.number class)))
       (λ own. subst (OwnFits k) (sym (ap (λ (z : DomainView). z.own) (told.own own))) fits)
-      (λ other. looking_fits k x y class (record { pool = pool_after k.pools x.own.swept.top pool; slot = 0 }) fits (ap (λ (z : DomainView). z.own) (told.other other)) (after_within k.pools x.own.swept.top pool inside) (some_block class few).0);
+      (λ other. looking_fits k x y class (pool_behind k.pools x.own.swept.top pool (search_at x.own.looked class)) fits (ap (λ (z : DomainView). z.own) (told.other other)) (behind_within k.pools x.own.swept.top pool (search_at x.own.looked class) inside) (some_block class few).0);
   once = dite (ℕ_discrete found (owner_word (owned x.own.number class)))
       (λ own. looking_once k x y _ _ (told.own own))
       (λ other. looking_once k x y _ _ (told.other other));
 })
 
-pub place_closes : (k : Config) (x : DomainView) (found pool class slot : ℕ) → pool < k.pools → class < class_count → slot < blocks_of class → IsWithinLimits (sizes_in k)
-    → Closes k x found (PlaceTold pool class slot) (λ _. CanLook pool class × (slot < blocks_of class)) (PassesPlace pool class slot found)
-place_closes k x found pool class slot inside few low limits y fits told = record {
+pub place_closes : (k : Config) (x : DomainView) (found pools pool class slot : ℕ) → pools ≡ k.pools → pool < k.pools → class < class_count → slot < blocks_of class → IsWithinLimits (sizes_in k)
+    → Closes k x found (PlaceTold k pool class slot) (λ _. CanLook pool class × (slot < blocks_of class)) (PassesPlace pools pool class slot found)
+place_closes k x found pools pool class slot all inside few low limits = subst (λ (n : ℕ). Closes k x found (PlaceTold k pool class slot) (λ _. CanLook pool class × (slot < blocks_of class)) (PassesPlace n pool class slot found)) (sym all) (λ y fits told. record {
   can_write = ((few_pools k pool limits inside, few), low);
   written = λ after is. dite (ℕ_discrete found 0)
       (λ free. ap (λ (z : DomainView). z.own) (told.free free) ∙ sym (is.free free))
@@ -140,14 +140,14 @@ place_closes k x found pool class slot inside few low limits y fits told = recor
   fits = dite (ℕ_discrete found 0)
       (λ free. subst (OwnFits k) (sym (ap (λ (z : DomainView). z.own) (told.free free))) fits)
       (λ taken. dite (dec_le (blocks_of class) (slot + 1))
-      (λ last. looking_fits k x y class (record { pool = pool + 1; slot = 0 }) fits (ap (λ (z : DomainView). z.own) (told.last taken last)) (let i = inside in omega arith) (some_block class few).0)
-      (λ more. looking_fits k x y class (record { pool = pool; slot = slot + 1 }) fits (ap (λ (z : DomainView). z.own) (told.full taken (lt_of_not-le more))) (let i = inside in omega arith) (lt_of_not-le more)));
+      (λ last. looking_fits k x y class (pool_behind k.pools x.own.swept.top pool (search_at x.own.looked class)) fits (ap (λ (z : DomainView). z.own) (told.last taken last)) (behind_within k.pools x.own.swept.top pool (search_at x.own.looked class) inside) (some_block class few).0)
+      (λ more. looking_fits k x y class (record { pool = pool; slot = slot + 1; only = (search_at x.own.looked class).only }) fits (ap (λ (z : DomainView). z.own) (told.full taken (lt_of_not-le more))) (let i = inside in omega arith) (lt_of_not-le more)));
   once = dite (ℕ_discrete found 0)
       (λ free. looking_once k x y _ _ (told.free free))
       (λ taken. dite (dec_le (blocks_of class) (slot + 1))
       (λ last. looking_once k x y _ _ (told.last taken last))
       (λ more. looking_once k x y _ _ (told.full taken (lt_of_not-le more))));
-}
+})
 
 -- the domain after the head, by its registers
 pub major_rest : (k : Config) (e : Entry) (changes : List Change) (x y : DomainView) → MajorTold k e changes x y → y ≡ record {

@@ -11,7 +11,7 @@ use Rattle.heap_rule.specs.declared.view.DomainView.{DomainView}
 use Rattle.heap_rule.specs.Layout.{at_address, listed, cursor}
 use Rattle.heap_rule.specs.Views.{one}
 use Rattle.heap_rule.specs.Rule.{Rule}
-use Rattle.heap_rule.specs.Pools.{Tenancy, Pools, Hunter, Latest, DrawsFor, drawn_in, spot_at, prepared_at, place_in, blocks_of}
+use Rattle.heap_rule.specs.Pools.{Tenancy, Pools, Hunter, Latest, DrawsFor, drawn_in, search_at, prepared_at, place_in, blocks_of}
 use Rattle.step_pools.specs.Takes.{NoneFree, CopyDrawMay}
 use Rattle.heap_rule.proofs.Keeps.{Words, mine, my_good}
 use Rattle.heap_rule.proofs.PauseFacts.{promote_now}
@@ -39,7 +39,7 @@ used_up k t words x class p h few free none_free unprepared =
     (λ not_all.
     let inside : u < b = lt_of_not-le not_all in
     let below : q < k.pools = (p.owned_by q x.own.number class l.own_is).0 in
-    let seen : q < (spot_at x.own.looked class).pool = (let w : ℕ = (spot_at x.own.looked class).pool in let f : k.pools ≤ w = none_free in let o : q < w = omega arith in o) in
+    let seen : q < (search_at x.own.looked class).pool = (let w : ℕ = (search_at x.own.looked class).pool in let f : k.pools ≤ w = none_free in let o : q < w = omega arith in o) in
     absurd (⊎_elim
     (λ (z : at_address k words (place_in q class u) ≡ 0). h.taken q class u l.own_is inside (inl seen) z)
     (λ (z : (u ≡ u) × (t.prepared (place_in q class u) ≡ Some x.own.number)). none-some (place_in q class u) (sym unprepared ∙ h.prepared q class u l.own_is inside z.1))

@@ -16,8 +16,8 @@ use Rattle.heap_rule.specs.Layout.{before_heap, at_address, listed, cursor, list
 use Rattle.heap_rule.specs.Views.{one, Tells}
 use Rattle.heap_rule.specs.Raw.{MayStep, MayStore}
 use Rattle.heap_rule.specs.Rule.{Rule}
-use Rattle.heap_rule.specs.Pools.{Takes, owned, owner_word, Hunts, drawn_in, place_in, blocks_of, limit_of}
-use Rattle.step_pools.specs.Writes.{pool_after}
+use Rattle.heap_rule.specs.Pools.{Takes, owned, owner_word, Hunts, drawn_in, place_in, blocks_of, limit_of, search_at}
+use Rattle.step_pools.specs.Writes.{pool_behind}
 use Rattle.step_pools.specs.Takes.{with_hunt, found_free, looked_to, owning_pool, HasNoDraw, ListedTold, CursorTold, YoungMay, YoungTold, CursorAddTold, CopyDrawMay, CopyDrawTold, ListMay, ListTold, ClearMay, ClearTold, OwnedTold, FillTold, cleared_more, OwnerMay, OwnerLoadMay, OwnerTold, PlaceMay, PlaceTold, FillMay, filled, NoneFree}
 use Rattle.heap_rule.proofs.Keeps.{unmoved, looks}
 use Rattle.step_pools.proofs.DrawSteps.{hunter, leaves_spare, listed_rule, asks_rule, rests_rule, young_rule, past_bounds, add_whole, add_late_rule, add_draws_rule, add_place_inside, add_pool_inside, copy_whole, copy_draws_rule, copy_place_inside, copy_pool_inside}
@@ -134,13 +134,13 @@ owners k slots id word hist x takes pool class wide may s r _ at _ =
     dite (ℕ_discrete found (owner_word (owned x.own.number class)))
     (λ own. let y : DomainView = with_hunt x (Walks pool class) in
     (one k hist y, keeps, tt, unmoved k s word (set s.views id (one k hist y)) (walks_rule k s r id hist x at takes pool class may.inside may.of_class may.at_rest own), (record { wide = wide; own = λ e. refl; other = λ n. absurd (n (found_is ∙ own)) }, refl)))
-    (λ other. let y : DomainView = looked_to x class (record { pool = pool_after k.pools x.own.swept.top pool; slot = 0 }) Rests in
+    (λ other. let y : DomainView = looked_to x class (pool_behind k.pools x.own.swept.top pool (search_at x.own.looked class)) Rests in
     (one k hist y, keeps, tt, unmoved k s word (set s.views id (one k hist y)) (passes_rule k s r id hist x at takes pool class may.inside may.of_class may.at_rest other may.next wide), (record { wide = wide; own = λ e. absurd (other (sym found_is ∙ e)); other = λ n. refl }, refl)))
 
 pub owner_load_may : (k : Config) (x : DomainView) (takes : Takes x.seen.stage) (word pool class : ℕ) → OwnerLoadMay k x word pool class → MayStep k x word (λ n. n) (OwnerTold k pool class)
 owner_load_may k x takes word pool class may fits slots id h = owners k slots id word h x takes pool class fits.looked.wide may
 
-places : (k : Config) (slots id word : ℕ) (hist : List Entry) (x : DomainView) (takes : Takes x.seen.stage) (a pool class slot : ℕ) → word ≡ before_heap k + a → length x.own.looked ≡ class_count → PlaceMay x a pool class slot → Allows (Rule k) slots id (one k hist x, []) word (λ n. n) (Tells (PlaceTold pool class slot) (one k hist x, []))
+places : (k : Config) (slots id word : ℕ) (hist : List Entry) (x : DomainView) (takes : Takes x.seen.stage) (a pool class slot : ℕ) → word ≡ before_heap k + a → length x.own.looked ≡ class_count → PlaceMay x a pool class slot → Allows (Rule k) slots id (one k hist x, []) word (λ n. n) (Tells (PlaceTold k pool class slot) (one k hist x, []))
 places k slots id word hist x takes a pool class slot here wide may s r _ at _ =
     let found : ℕ = at_address k s.words (place_in pool class slot) in
     let found_is : get_or s.words word 0 ≡ found = ap (λ (n : ℕ). get_or s.words n 0) (here ∙ ap (λ (n : ℕ). before_heap k + n) may.word) in
@@ -148,12 +148,12 @@ places k slots id word hist x takes a pool class slot here wide may s r _ at _ =
     (λ free. let y : DomainView = with_hunt x (Fills pool class slot []) in
     (one k hist y, keeps, tt, unmoved k s word (set s.views id (one k hist y)) (takes_rule k s r id hist x at takes pool class slot may.hunt may.inside free), (record { wide = wide; free = λ e. refl; full = λ n m. absurd (n (found_is ∙ free)); last = λ n m. absurd (n (found_is ∙ free)) }, refl)))
     (λ full. dite (dec_le (blocks_of class) (slot + 1))
-    (λ last. let y : DomainView = looked_to x class (record { pool = pool + 1; slot = 0 }) (Walks pool class) in
+    (λ last. let y : DomainView = looked_to x class (pool_behind k.pools x.own.swept.top pool (search_at x.own.looked class)) (Walks pool class) in
     (one k hist y, keeps, tt, unmoved k s word (set s.views id (one k hist y)) (last_rule k s r id hist x at takes pool class slot may.hunt may.inside full last may.next wide), (record { wide = wide; free = λ e. absurd (full (sym found_is ∙ e)); full = λ n m. absurd (let b : ℕ = blocks_of class in let l : b ≤ slot + 1 = last in let h : slot + 1 < b = m in omega arith); last = λ n m. refl }, refl)))
-    (λ not_last. let y : DomainView = looked_to x class (record { pool = pool; slot = slot + 1 }) (Walks pool class) in
+    (λ not_last. let y : DomainView = looked_to x class (record { pool = pool; slot = slot + 1; only = (search_at x.own.looked class).only }) (Walks pool class) in
     (one k hist y, keeps, tt, unmoved k s word (set s.views id (one k hist y)) (full_rule k s r id hist x at takes pool class slot may.hunt may.inside full may.next wide), (record { wide = wide; free = λ e. absurd (full (sym found_is ∙ e)); full = λ n m. refl; last = λ n m. absurd (not_last m) }, refl))))
 
-pub place_may : (k : Config) (x : DomainView) (takes : Takes x.seen.stage) (word a pool class slot : ℕ) → word ≡ before_heap k + a → PlaceMay x a pool class slot → MayStep k x word (λ n. n) (PlaceTold pool class slot)
+pub place_may : (k : Config) (x : DomainView) (takes : Takes x.seen.stage) (word a pool class slot : ℕ) → word ≡ before_heap k + a → PlaceMay x a pool class slot → MayStep k x word (λ n. n) (PlaceTold k pool class slot)
 place_may k x takes word a pool class slot here may fits slots id h = places k slots id word h x takes a pool class slot here fits.looked.wide may
 
 fills : (k : Config) (slots id word : ℕ) (hist : List Entry) (x : DomainView) (takes : Takes x.seen.stage) (a new : ℕ) → word ≡ before_heap k + a → FillMay x a

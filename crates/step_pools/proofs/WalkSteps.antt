@@ -1,6 +1,6 @@
 -- The steps that look at the places of own pools, and make a drawn pool the domain's own.
 use Rattle.model_core.specs.Domains.{class_count}
-use Rattle.std.proofs.Common.{◌≡◌, ◌≢◌, ℕ, ◌+◌, ◌*◌, ◌<◌, ◌≤◌, ◌⊎◌, List, [], ◌∷◌, ◌++◌, length, get_or, set, slice_get, Some, None, sym, refl, ap, ◌∙◌, subst, inl, inr, ⊎_elim, arith, length-set, get_or-set_same, get_or-set_other, lt_of_not-le, IsTrue}
+use Rattle.std.proofs.Common.{◌≡◌, ◌≢◌, ℕ, ◌+◌, ◌*◌, ◌<◌, ◌≤◌, ◌⊎◌, List, [], ◌∷◌, ◌++◌, length, get_or, set, slice_get, Some, None, sym, refl, ap, ◌∙◌, subst, inl, inr, ⊎_elim, arith, length-set, get_or-set_same, get_or-set_other, lt_of_not-le, IsTrue, true}
 use mathlib.Core.Logic.{dite}
 use native.Mathlib.Decide.{ℕ_discrete, dec_le}
 use mathlib.Core.Option.{some}
@@ -9,21 +9,22 @@ use Rattle.model_core.specs.declared.entry.Entry.{Entry}
 use Rattle.heap_rule.specs.declared.config.Config.{Config}
 use Rattle.heap_rule.specs.declared.view.DomainView.{DomainView}
 use Rattle.heap_rule.specs.declared.view.Hunt.TheVariants.{Rests, Draws, Walks, Fills}
+use Rattle.heap_rule.specs.declared.view.Search.{Search}
 use Rattle.heap_rule.specs.declared.view.Spot.{Spot}
 use Rattle.heap_rule.specs.Layout.{heap_words, before_heap, table_words, at_address, listed, cursor, listed_pool, owner_of}
 use Rattle.heap_rule.specs.Places.{Place, Live, extent}
 use Rattle.heap_rule.specs.Room.{Room, IsUnused}
 use Rattle.heap_rule.specs.Views.{one}
 use Rattle.heap_rule.specs.Rule.{state_of, Rule}
-use Rattle.heap_rule.specs.Pools.{nobody, owned, owner_word, Stock, Tenancy, Takes, Pools, Grid, IsSpare, Hunts, Hunter, Latest, DrawsFor, Clearing, Filling, drawn_in, spot_at, IsBefore, place_in, size_of, blocks_of, limit_of}
+use Rattle.heap_rule.specs.Pools.{nobody, owned, owner_word, Stock, Tenancy, Takes, Pools, Grid, IsSpare, Hunts, Hunter, Latest, DrawsFor, Clearing, Filling, drawn_in, search_at, first_search, place_of, IsBefore, IsPassed, place_in, size_of, blocks_of, limit_of}
 use Rattle.heap_rule.specs.Phases.{sum_of}
 use Rattle.step_pools.specs.Takes.{with_hunt, looked_to, NoneFree}
 use Rattle.heap_rule.proofs.Update.{over, over_here, over_else}
 use Rattle.heap_rule.proofs.Lists.{got_end, got_below}
 use Rattle.heap_rule.proofs.Values.{extent_large}
 use Rattle.step_pools.specs.Takes.{owning_pool}
-use Rattle.step_pools.specs.Writes.{pool_after, top_above}
-use Rattle.step_pools.proofs.Tops.{above_top, before_after, low_same}
+use Rattle.step_pools.specs.Writes.{pool_behind, top_above}
+use Rattle.step_pools.proofs.Tops.{above_top, passed_behind, low_same}
 use Rattle.heap_rule.proofs.Keeps.{Words, my_good, mine, more_same, phases_words, phases_same, cycle_control, control_set, controls_kept, pools_same, covered_words, room_words, holds_again, garbage_here}
 use Rattle.heap_rule.proofs.Classes.{size_least, some_block, slot_below, slot_inside}
 use Rattle.heap_rule.proofs.Beside.{found_beside, making_beside}
@@ -41,15 +42,12 @@ use Rattle.heap_rule.specs.Cycles.{Cycling, Leaves}
 pub equal_le : {a b : ℕ} → a ≡ b → b ≤ a
 equal_le {a} {b} e = omega arith
 
-abbrev nowhere : Spot
-nowhere = record { pool = 0; slot = 0 }
+-- how far it was looked, for a class and for the others
+search_same : (l : List Search) (class c : ℕ) (n : Search) → c ≡ class → class < class_count → length l ≡ class_count → search_at (set l class n) c ≡ n
+search_same l class c n same few wide = ap (λ (m : ℕ). search_at (set l class n) m) same ∙ get_or-set_same l class n first_search (omega arith)
 
--- the place looked to, of a class and of the others
-spot_same : (l : List Spot) (class c : ℕ) (n : Spot) → c ≡ class → class < class_count → length l ≡ class_count → spot_at (set l class n) c ≡ n
-spot_same l class c n same few wide = ap (λ (m : ℕ). spot_at (set l class n) m) same ∙ get_or-set_same l class n nowhere (omega arith)
-
-spot_other : (l : List Spot) (class c : ℕ) (n : Spot) → c ≢ class → spot_at (set l class n) c ≡ spot_at l c
-spot_other l class c n other = get_or-set_other l class c n nowhere other
+search_other : (l : List Search) (class c : ℕ) (n : Search) → c ≢ class → search_at (set l class n) c ≡ search_at l c
+search_other l class c n other = get_or-set_other l class c n first_search other
 
 -- the prepared places stay where the written word is the head of no place of an owned pool
 pub spares_stay : (k : Config) (t : Tenancy) (live : Live) (words : List ℕ) (at new : ℕ) → ((q e c slot : ℕ) → t.holder q ≡ owned e c → slot < blocks_of c → place_in q c slot ≢ at) → Grid k t live words
@@ -91,21 +89,22 @@ module _ (k : Config) (s : Words) (r : Rule k s) (id : ℕ) (hist : List Entry) 
     walks_rule free e = knows k s r id hist x at takes x.own.looked (Walks pool class) (next_hunter k s r id hist x at takes (Walks pool class) (own_is e) free)
 
     -- the pool isn't the domain's, of this class
-    abbrev past : Spot
-    past = record { pool = pool_after k.pools x.own.swept.top pool; slot = 0 }
+    abbrev past : Search
+    past = pool_behind k.pools x.own.swept.top pool (search_at x.own.looked class)
 
-    pub passes_rule : drawn_in x.seen.hunt ≡ None → word ≢ owner_word (owned d class) → (spot_at x.own.looked class).pool ≡ pool → length x.own.looked ≡ class_count
+    pub passes_rule : drawn_in x.seen.hunt ≡ None → word ≢ owner_word (owned d class) → (search_at x.own.looked class).pool ≡ pool → length x.own.looked ≡ class_count
         → Rule k record { words = s.words; homes = s.homes; views = set s.views id (one k hist (looked_to x class past Rests)) }
     passes_rule free differ from wide = knows k s r id hist x at takes (set x.own.looked class past) Rests (hunter_on k T s.words x (set x.own.looked class past) Rests x.seen.free tt free
         (λ q c slot is below seen. dite (ℕ_discrete c class)
         (λ same.
         let mine_is : T.holder q ≡ owned d class = is ∙ ap (owned d) same in
         let other : q ≢ pool = (λ here. differ (P.owners pool inside ∙ ap owner_word (sym (ap T.holder here) ∙ mine_is))) in
-        H.taken q c slot is below (⊎_elim
-        (λ (h : q < past.pool). inl (subst (λ (m : ℕ). q < m) (sym from ∙ ap (λ (m : ℕ). (spot_at x.own.looked m).pool) (sym same)) (before_after k.pools x.own.swept.top pool q h ((my_good k s r id hist x at).sweeps.below q c is) other)))
-        (λ (h : (q ≡ past.pool) × (slot < 0)). absurd (let l = h.1 in omega arith))
-        (subst (λ (m : Spot). IsBefore q slot m) (spot_same x.own.looked class c past same few wide) seen)))
-        (λ other. H.taken q c slot is below (subst (λ (m : Spot). IsBefore q slot m) (spot_other x.own.looked class c past other) seen)))
+        H.taken q c slot is below (subst (λ (m : ℕ). IsPassed q slot (search_at x.own.looked m)) (sym same) (⊎_elim
+        (λ (here : q ≡ pool). absurd (other here))
+        (λ (was : IsPassed q slot (search_at x.own.looked class)). was)
+        (passed_behind k.pools x.own.swept.top pool q slot (search_at x.own.looked class) from ((my_good k s r id hist x at).sweeps.below q c is)
+        (subst (IsPassed q slot) (search_same x.own.looked class c past same few wide) seen)))))
+        (λ other. H.taken q c slot is below (subst (IsPassed q slot) (search_other x.own.looked class c past other) seen)))
         H.free H)
 
   -- the head at the next place of an own pool
@@ -131,42 +130,44 @@ module _ (k : Config) (s : Words) (r : Rule k s) (id : ℕ) (hist : List Entry) 
       written = λ j w got. cc;
     } no_draw)
 
-    abbrev next : Spot
-    next = record { pool = pool; slot = slot + 1 }
+    abbrev next : Search
+    next = record { pool = pool; slot = slot + 1; only = (search_at x.own.looked class).only }
 
-    pub full_rule : at_address k s.words place ≢ 0 → spot_at x.own.looked class ≡ record { pool = pool; slot = slot } → length x.own.looked ≡ class_count
+    pub full_rule : at_address k s.words place ≢ 0 → place_of (search_at x.own.looked class) ≡ record { pool = pool; slot = slot } → length x.own.looked ≡ class_count
         → Rule k record { words = s.words; homes = s.homes; views = set s.views id (one k hist (looked_to x class next (Walks pool class))) }
     full_rule full from wide = knows k s r id hist x at takes (set x.own.looked class next) (Walks pool class) (hunter_on k T s.words x (set x.own.looked class next) (Walks pool class) x.seen.free own no_draw
         (λ q c i is below seen. dite (ℕ_discrete c class)
         (λ same.
-        let before : spot_at x.own.looked c ≡ record { pool = pool; slot = slot } = ap (λ (m : ℕ). spot_at x.own.looked m) same ∙ from in
+        let before : place_of (search_at x.own.looked c) ≡ record { pool = pool; slot = slot } = ap (λ (m : ℕ). place_of (search_at x.own.looked m)) same ∙ from in
         ⊎_elim
-        (λ (h : q < pool). H.taken q c i is below (inl (subst (λ (m : Spot). q < m.pool) (sym before) h)))
+        (λ (b : IsBefore q i (record { pool = pool; slot = slot + 1 })). ⊎_elim
+        (λ (h : q < pool). H.taken q c i is below (inl (subst (IsBefore q i) (sym before) (inl h))))
         (λ (h : (q ≡ pool) × (i < slot + 1)). dite (ℕ_discrete i slot)
         (λ (eq : i ≡ slot). λ z. full (subst (λ (m : ℕ × ℕ × ℕ). at_address k s.words (place_in m.0 m.1 m.2) ≡ 0) (λ j. (h.0 j, same j, eq j)) z))
-        (λ (ne : i ≢ slot). H.taken q c i is below (inr (subst (λ (m : Spot). (q ≡ m.pool) × (i < m.slot)) (sym before) (h.0, (let l = h.1 in omega arith))))))
-        (subst (λ (m : Spot). IsBefore q i m) (spot_same x.own.looked class c next same few wide) seen))
-        (λ other. H.taken q c i is below (subst (λ (m : Spot). IsBefore q i m) (spot_other x.own.looked class c next other) seen)))
+        (λ (ne : i ≢ slot). H.taken q c i is below (inl (subst (IsBefore q i) (sym before) (inr (h.0, (let l = h.1 in omega arith)))))))
+        b)
+        (λ (h : ((search_at x.own.looked class).only ≡ true) × (pool < q)). H.taken q c i is below (inr (ap (λ (m : ℕ). (search_at x.own.looked m).only) same ∙ h.0, subst (λ (m : Spot). m.pool < q) (sym before) h.1)))
+        (subst (IsPassed q i) (search_same x.own.looked class c next same few wide) seen))
+        (λ other. H.taken q c i is below (subst (IsPassed q i) (search_other x.own.looked class c next other) seen)))
         H.free H)
 
-    abbrev behind : Spot
-    behind = record { pool = pool + 1; slot = 0 }
+    abbrev behind : Search
+    behind = pool_behind k.pools x.own.swept.top pool (search_at x.own.looked class)
 
-    pub last_rule : at_address k s.words place ≢ 0 → blocks_of class ≤ slot + 1 → spot_at x.own.looked class ≡ record { pool = pool; slot = slot } → length x.own.looked ≡ class_count
+    pub last_rule : at_address k s.words place ≢ 0 → blocks_of class ≤ slot + 1 → place_of (search_at x.own.looked class) ≡ record { pool = pool; slot = slot } → length x.own.looked ≡ class_count
         → Rule k record { words = s.words; homes = s.homes; views = set s.views id (one k hist (looked_to x class behind (Walks pool class))) }
     last_rule full last from wide = knows k s r id hist x at takes (set x.own.looked class behind) (Walks pool class) (hunter_on k T s.words x (set x.own.looked class behind) (Walks pool class) x.seen.free own no_draw
         (λ q c i is below seen. dite (ℕ_discrete c class)
         (λ same.
-        let before : spot_at x.own.looked c ≡ record { pool = pool; slot = slot } = ap (λ (m : ℕ). spot_at x.own.looked m) same ∙ from in
+        let before : place_of (search_at x.own.looked c) ≡ record { pool = pool; slot = slot } = ap (λ (m : ℕ). place_of (search_at x.own.looked m)) same ∙ from in
         ⊎_elim
-        (λ (h : q < pool + 1). dite (ℕ_discrete q pool)
         (λ (here : q ≡ pool). dite (ℕ_discrete i slot)
         (λ (eq : i ≡ slot). λ z. full (subst (λ (m : ℕ × ℕ × ℕ). at_address k s.words (place_in m.0 m.1 m.2) ≡ 0) (λ j. (here j, same j, eq j)) z))
-        (λ (ne : i ≢ slot). H.taken q c i is below (inr (subst (λ (m : Spot). (q ≡ m.pool) × (i < m.slot)) (sym before) (here, (let b : i < blocks_of class = subst (λ (m : ℕ). i < blocks_of m) same below in let n : ℕ = blocks_of class in let l : n ≤ slot + 1 = last in omega arith))))))
-        (λ (other : q ≢ pool). H.taken q c i is below (inl (subst (λ (m : Spot). q < m.pool) (sym before) (let o : q ≢ pool = other in omega arith)))))
-        (λ (h : (q ≡ pool + 1) × (i < 0)). absurd (let l = h.1 in omega arith))
-        (subst (λ (m : Spot). IsBefore q i m) (spot_same x.own.looked class c behind same few wide) seen))
-        (λ other. H.taken q c i is below (subst (λ (m : Spot). IsBefore q i m) (spot_other x.own.looked class c behind other) seen)))
+        (λ (ne : i ≢ slot). H.taken q c i is below (inl (subst (IsBefore q i) (sym before) (inr (here, (let b : i < blocks_of class = subst (λ (m : ℕ). i < blocks_of m) same below in let n : ℕ = blocks_of class in let l : n ≤ slot + 1 = last in omega arith)))))))
+        (λ (was : IsPassed q i (search_at x.own.looked class)). H.taken q c i is below (subst (λ (m : ℕ). IsPassed q i (search_at x.own.looked m)) (sym same) was))
+        (passed_behind k.pools x.own.swept.top pool q i (search_at x.own.looked class) (ap (λ (m : Spot). m.pool) from) ((my_good k s r id hist x at).sweeps.below q c is)
+        (subst (IsPassed q i) (search_same x.own.looked class c behind same few wide) seen)))
+        (λ other. H.taken q c i is below (subst (IsPassed q i) (search_other x.own.looked class c behind other) seen)))
         H.free H)
 
   -- Free at the next place of the pool drawn
@@ -427,10 +428,10 @@ module _ (k : Config) (s : Words) (r : Rule k s) (id : ℕ) (hist : List Entry) 
     stock_still : (e : ℕ) → e ≢ d → SameStock T.stock stock2 e
     stock_still e other = record { drawn = refl; copies = refl; latest = over_else d own_latest T.stock.latest e other; used = over_else d own_used T.stock.used e other; claims = refl }
 
-    abbrev from_here : Spot
-    from_here = record { pool = pool; slot = 0 }
+    abbrev from_here : Search
+    from_here = record { pool = pool; slot = 0; only = true }
 
-    abbrev looked2 : List Spot
+    abbrev looked2 : List Search
     looked2 = set x.own.looked class from_here
 
     -- no block lives in it, as all its places are free
@@ -522,15 +523,16 @@ module _ (k : Config) (s : Words) (r : Rule k s) (id : ℕ) (hist : List Entry) 
             dite (ℕ_discrete q pool)
             (λ same.
             let class_is : c ≡ class = sym (owned_same d d class c (sym here2 ∙ (ap t2.holder (sym same) ∙ owned_is))).1 in
-            ⊎_elim (λ (h : q < pool). omega arith) (λ (h : (q ≡ pool) × (slot < 0)). let l = h.1 in omega arith)
-            (subst (λ (m : Spot). IsBefore q slot m) (spot_same x.own.looked class c from_here class_is all_clear.of_class wide) seen))
+            ⊎_elim (λ (b : IsBefore q slot (record { pool = pool; slot = 0 })). ⊎_elim (λ (h : q < pool). let e : q ≡ pool = same in omega arith) (λ (h : (q ≡ pool) × (slot < 0)). let l = h.1 in omega arith) b)
+            (λ (h : (true ≡ true) × (pool < q)). let e : q ≡ pool = same in let l : pool < q = h.1 in omega arith)
+            (subst (IsPassed q slot) (search_same x.own.looked class c from_here class_is all_clear.of_class wide) seen))
             (λ other.
             let own_before : T.holder q ≡ owned d c = sym (else2 q other) ∙ owned_is in
             dite (ℕ_discrete c class)
-            (λ same. H.taken q c slot own_before below (inl (let i : q < k.pools = (P.owned_by q d c own_before).0 in
-            let full : k.pools ≤ (spot_at x.own.looked c).pool = subst (λ (m : ℕ). k.pools ≤ (spot_at x.own.looked m).pool) (sym same) none_free in
-            let w : ℕ = (spot_at x.own.looked c).pool in let g : q < w = omega arith in g)) unset)
-            (λ differ. H.taken q c slot own_before below (subst (λ (m : Spot). IsBefore q slot m) (spot_other x.own.looked class c from_here differ) seen) unset));
+            (λ same. H.taken q c slot own_before below (inl (inl (let i : q < k.pools = (P.owned_by q d c own_before).0 in
+            let full : k.pools ≤ (search_at x.own.looked c).pool = subst (λ (m : ℕ). k.pools ≤ (search_at x.own.looked m).pool) (sym same) none_free in
+            let w : ℕ = (search_at x.own.looked c).pool in let g : q < w = omega arith in g))) unset)
+            (λ differ. H.taken q c slot own_before below (subst (IsPassed q slot) (search_other x.own.looked class c from_here differ) seen) unset));
         holds = λ c a few e. let u = H.holds c a few e in (u.0, (u.1.0, u.1.1, owned_still u.1.0 c u.1.2, u.1.3, u.1.4));
         prepared = λ q c slot owned_is below e. H.prepared q c slot (owned_was q c (unprepared2 q c slot owned_is below e) owned_is) below e;
         claims = H.claims;

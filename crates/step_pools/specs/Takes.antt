@@ -15,25 +15,25 @@ use Rattle.heap_rule.specs.declared.view.DomainView.{DomainView}
 use Rattle.heap_rule.specs.declared.view.Hunt.{Hunt}
 use Rattle.heap_rule.specs.declared.view.Hunt.TheVariants.{Rests, Counts, Asks, Draws, Walks, Fills}
 use Rattle.heap_rule.specs.declared.view.Spare.{Spare}
-use Rattle.heap_rule.specs.declared.view.Spot.{Spot}
+use Rattle.heap_rule.specs.declared.view.Search.{Search}
 use Rattle.heap_rule.specs.declared.phase.Kind.TheVariants.{Promote}
 use Rattle.heap_rule.specs.declared.phase.Stage.TheVariants.{In}
 use Rattle.heap_rule.specs.Copies.{known}
 use Rattle.heap_rule.specs.Limits.{sizes_in}
 use Rattle.heap_rule.specs.Places.{Place, IsNewHead, class_words}
 use Rattle.heap_rule.specs.Changes.{changed, FitChanges}
-use Rattle.heap_rule.specs.Pools.{size_of, blocks_of, place_in, owner_word, owned, limit_of, drawn_in, prepared_at, spot_at, hunting_free, hunting_below, hunting}
+use Rattle.heap_rule.specs.Pools.{size_of, blocks_of, place_in, owner_word, owned, limit_of, drawn_in, prepared_at, place_of, search_at, hunting_free, hunting_below, hunting}
 use Rattle.heap_rule.specs.Token.{next_label}
 use Rattle.heap_rule.specs.Standing.{Acts}
-use Rattle.step_pools.specs.Writes.{pool_after, top_above}
+use Rattle.step_pools.specs.Writes.{pool_behind, top_above}
 use Rattle.heap_rule.specs.Token.{Holds}
 
 -- the domain further on in taking a block
 abbrev pub with_hunt : DomainView → Hunt → DomainView
 with_hunt x hunt = hunting x x.own.looked hunt
 
--- the same, with another place looked to for a class
-abbrev pub looked_to : DomainView → ℕ → Spot → Hunt → DomainView
+-- the same, where another place was looked to for a class
+abbrev pub looked_to : DomainView → ℕ → Search → Hunt → DomainView
 looked_to x class n hunt = hunting x (slice_set x.own.looked class n) hunt
 
 -- no pool is drawn
@@ -42,7 +42,7 @@ HasNoDraw x = drawn_in x.seen.hunt ≡ None
 
 -- no place of an own pool of the class is free
 abbrev pub NoneFree : Config → DomainView → ℕ → Type 0
-NoneFree k x class = k.pools ≤ (spot_at x.own.looked class).pool
+NoneFree k x class = k.pools ≤ (search_at x.own.looked class).pool
 
 -- not all own pools were looked through of the class of the place that is known to be free
 abbrev pub LeavesSpare : Config → DomainView → Type 0
@@ -147,9 +147,9 @@ pub record OwnerMay (k : Config) (x : DomainView) (at new pool class : ℕ) : Ty
   pub signs : new ≡ owner_word (owned x.own.number class)
   pub none_free : NoneFree k x class
 
--- a pool is the domain's own, and its places are looked at first
+-- a pool is the domain's own, and its places are looked at first: no place of another one of the class is free
 abbrev pub owning_pool : DomainView → ℕ → ℕ → Hunt → DomainView
-owning_pool x class pool hunt = hunting_below x (top_above x.own.swept.top pool) (slice_set x.own.looked class (record { pool = pool; slot = 0 })) hunt x.seen.free
+owning_pool x class pool hunt = hunting_below x (top_above x.own.swept.top pool) (slice_set x.own.looked class (record { pool = pool; slot = 0; only = true })) hunt x.seen.free
 
 -- the pool is the domain's, and its first place is taken
 pub record OwnedTold (pool class : ℕ) (x : DomainView) (new : ℕ) (y : DomainView) : Type 0 where
@@ -162,25 +162,25 @@ pub record OwnerLoadMay (k : Config) (x : DomainView) (at pool class : ℕ) : Ty
   pub word : at ≡ 11 + k.pools + pool
   pub inside : pool < k.pools
   pub of_class : class < class_count
-  pub next : (spot_at x.own.looked class).pool ≡ pool
+  pub next : (search_at x.own.looked class).pool ≡ pool
 
 pub record OwnerTold (k : Config) (pool class : ℕ) (x : DomainView) (found : ℕ) (y : DomainView) : Type 0 where
   pub wide : length x.own.looked ≡ class_count
   pub own : found ≡ owner_word (owned x.own.number class) → y ≡ with_hunt x (Walks pool class)
-  pub other : found ≢ owner_word (owned x.own.number class) → y ≡ looked_to x class (record { pool = pool_after k.pools x.own.swept.top pool; slot = 0 }) Rests
+  pub other : found ≢ owner_word (owned x.own.number class) → y ≡ looked_to x class (pool_behind k.pools x.own.swept.top pool (search_at x.own.looked class)) Rests
 
 -- a load of the head at the next place of an own pool
 pub record PlaceMay (x : DomainView) (at pool class slot : ℕ) : Type 0 where
   pub hunt : x.seen.hunt ≡ Walks pool class
   pub inside : slot < blocks_of class
   pub word : at ≡ place_in pool class slot
-  pub next : spot_at x.own.looked class ≡ record { pool = pool; slot = slot }
+  pub next : place_of (search_at x.own.looked class) ≡ record { pool = pool; slot = slot }
 
-pub record PlaceTold (pool class slot : ℕ) (x : DomainView) (found : ℕ) (y : DomainView) : Type 0 where
+pub record PlaceTold (k : Config) (pool class slot : ℕ) (x : DomainView) (found : ℕ) (y : DomainView) : Type 0 where
   pub wide : length x.own.looked ≡ class_count
   pub free : found ≡ 0 → y ≡ with_hunt x (Fills pool class slot [])
-  pub full : found ≢ 0 → slot + 1 < blocks_of class → y ≡ looked_to x class (record { pool = pool; slot = slot + 1 }) (Walks pool class)
-  pub last : found ≢ 0 → blocks_of class ≤ slot + 1 → y ≡ looked_to x class (record { pool = pool + 1; slot = 0 }) (Walks pool class)
+  pub full : found ≢ 0 → slot + 1 < blocks_of class → y ≡ looked_to x class (record { pool = pool; slot = slot + 1; only = (search_at x.own.looked class).only }) (Walks pool class)
+  pub last : found ≢ 0 → blocks_of class ≤ slot + 1 → y ≡ looked_to x class (pool_behind k.pools x.own.swept.top pool (search_at x.own.looked class)) (Walks pool class)
 
 -- a store of the next word behind the head's of the place taken
 pub record FillMay (x : DomainView) (at : ℕ) : Type 0 where

@@ -13,7 +13,7 @@ ghost use Rattle.heap_rule.specs.Token.{IsIn};
 ghost use Rattle.step_pools.specs.Ephemerons.{EpheEntry, EpheTold};
 
 use heap_rule::{
-    CURSOR, Change, Domain, Heap, LISTED, Leaving, Own, Spot, Writing, make_changes, raw_add,
+    CURSOR, Change, Domain, Heap, LISTED, Leaving, Own, Search, Writing, make_changes, raw_add,
     raw_load, raw_store,
 };
 use heap_words::Value;
@@ -37,7 +37,7 @@ impl Writing for Asking {
     fn write(&self, _found: u64, _changes: &[Change], _own: &mut Own) {}
 }
 
-// A pool is the domain's own, and the places of its class are looked at from it on.
+// A pool is the domain's own, and the places of its class are looked at from it on: none of another pool is free.
 #[derive(Clone, Copy)]
 struct Owning {
     pool: u32,
@@ -52,9 +52,10 @@ impl Writing for Owning {
     ghost writes = { λ s _ _ own after. LooksFrom s.pool s.class own after };
 
     fn write(&self, _found: u64, _changes: &[Change], own: &mut Own) {
-        own.looked[self.class as usize] = Spot {
+        own.looked[self.class as usize] = Search {
             pool: self.pool,
             slot: 0,
+            only: true,
         };
         if self.pool >= own.swept.top {
             own.swept.top = self.pool + 1;

@@ -5,9 +5,9 @@ ghost use Rattle.heap_rule.specs.Pools.{Takes, size_of, blocks_of, place_in};
 ghost use Rattle.heap_rule.specs.Standing.{IsInHeap};
 ghost use Rattle.step_pools.specs.Takes.{OwnerLoadMay, OwnerTold, PlaceMay, PlaceTold};
 ghost use Rattle.heap_rule.specs.Token.{IsIn};
-ghost use Rattle.step_pools.specs.Writes.{pool_after};
+ghost use Rattle.step_pools.specs.Writes.{pool_after, pool_behind};
 
-use heap_rule::{Change, Domain, Heap, Own, Spot, Writing, raw_load};
+use heap_rule::{Change, Domain, Heap, Own, Search, Spot, Writing, raw_load};
 use heap_words::classes::POOL_WORDS;
 use std::marker::Brand;
 
@@ -78,7 +78,21 @@ pub fn pool_after(pools: u32, top: u32, pool: u32) -> u32
     if pool + 1 < top { pool + 1 } else { pools }
 }
 
-// The pool is passed where its owner word isn't the domain's, and so are those behind it where no own pool is left.
+// How far a domain has looked once no place of a pool is free from a place on that it has passed.
+fn pool_behind(pools: u32, top: u32, pool: u32, looked: Search) -> Search
+    requires inside { pool < 2048 }
+    ensures { result ≡ pool_behind pools top pool looked }
+{
+    let next = if looked.only { pools } else { pool_after(pools, top, pool) };
+    Search {
+        pool: next,
+        slot: 0,
+        only: looked.only,
+    }
+}
+
+// The pool is passed where its owner word isn't the domain's, and so are those behind it where no own pool is left, or none
+// that has a free place.
 #[derive(Clone, Copy)]
 struct PassingPool {
     pools: u32,
@@ -95,20 +109,41 @@ impl Writing for PassingPool {
 
     fn write(&self, found: u64, _changes: &[Change], own: &mut Own) {
         if found != owner_word(own.number, self.class) {
-            own.looked[self.class as usize] = Spot {
-                pool: pool_after(self.pools, own.swept.top, self.pool),
-                slot: 0,
-            };
+            let looked = own.looked[self.class as usize];
+            own.looked[self.class as usize] =
+                pool_behind(self.pools, own.swept.top, self.pool, looked);
         }
     }
 }
 
-// The place is passed where its head isn't Free.
+// The place is passed where its head isn't Free, and behind the last one of its pool so are the pools in which none is free.
 #[derive(Clone, Copy)]
 struct PassingPlace {
+    pools: u32,
     pool: u32,
     class: u32,
     slot: u32,
+}
+
+impl PassingPlace {
+    // How far the domain has looked once it has passed the place.
+    fn passed(self, top: u32, looked: Search) -> Search
+        requires pool { self.pool < 2048 }
+        requires class { self.class < class_count }
+        requires slot { self.slot < blocks_of self.class }
+        ensures next { self.slot + 1 < blocks_of self.class → result ≡ record { pool = self.pool; slot = self.slot + 1; only = looked.only } }
+        ensures last { blocks_of self.class ≤ self.slot + 1 → result ≡ pool_behind self.pools top self.pool looked }
+    {
+        if self.slot + 1 < class_blocks(self.class) {
+            Search {
+                pool: self.pool,
+                slot: self.slot + 1,
+                only: looked.only,
+            }
+        } else {
+            pool_behind(self.pools, top, self.pool, looked)
+        }
+    }
 }
 
 impl Writing for PassingPlace {
@@ -118,11 +153,12 @@ impl Writing for PassingPlace {
 
     ghost can = { λ s _ _ _. CanLook s.pool s.class × (s.slot < blocks_of s.class) };
 
-    ghost writes = { λ s found _ own after. PassesPlace s.pool s.class s.slot found own after };
+    ghost writes = { λ s found _ own after. PassesPlace s.pools s.pool s.class s.slot found own after };
 
     fn write(&self, found: u64, _changes: &[Change], own: &mut Own) {
         if found != 0 {
-            own.looked[self.class as usize] = place_behind(self.pool, self.class, self.slot);
+            let looked = own.looked[self.class as usize];
+            own.looked[self.class as usize] = self.passed(own.swept.top, looked);
         }
     }
 }
@@ -145,7 +181,8 @@ pub fn owner_load(heap: &Heap, dom: &mut Domain, at: u32, pool: u32, class: u32)
     raw_load::<Brand, PassingPool>(heap, dom, at as usize, &passing, &[])
 }
 
-/// A load of the head at the next place of an own pool. Answers the head's word.
+/// A load of the head at the next place of an own pool. Where it isn't Free the place is passed, and behind the last one of
+/// the pool all pools in which none is free. Answers the head's word.
 pub fn place_load(heap: &Heap, dom: &mut Domain, at: u32, pool: u32, class: u32, slot: u32) -> u64
     requires here { IsIn dom.old heap.now }
     requires inside { IsInHeap heap.now.config at }
@@ -153,10 +190,15 @@ pub fn place_load(heap: &Heap, dom: &mut Domain, at: u32, pool: u32, class: u32,
     requires may { PlaceMay dom.old.view at pool class slot }
     requires takes { Takes dom.old.view.seen.stage }
     ensures here { IsIn dom.new heap.now }
-    ensures told { PlaceTold pool class slot dom.old.view result dom.new.view }
+    ensures told { PlaceTold heap.now.config pool class slot dom.old.view result dom.new.view }
 {
-    let _limits = heap.config();
+    let pools = heap.config().pools;
     let index = heap.index_of(at);
-    let passing = PassingPlace { pool, class, slot };
+    let passing = PassingPlace {
+        pools,
+        pool,
+        class,
+        slot,
+    };
     raw_load::<Brand, PassingPlace>(heap, dom, index, &passing, &[])
 }

@@ -10,16 +10,17 @@ use Rattle.model_core.specs.Domains.{class_count}
 use Rattle.heap_rule.specs.declared.config.Config.{Config}
 use Rattle.heap_rule.specs.declared.view.Hunt.{Hunt}
 use Rattle.heap_rule.specs.declared.view.Hunt.TheVariants.{Rests, Labels, Heads}
-use Rattle.heap_rule.specs.declared.view.Spot.{Spot}
+use Rattle.heap_rule.specs.declared.view.Search.{Search}
+use Rattle.heap_rule.proofs.Searches.{looks_freed, passed_freed}
 use Rattle.heap_rule.specs.declared.view.DomainView.{DomainView}
 use Rattle.heap_rule.specs.declared.phase.Kind.TheVariants.{Promote}
 use Rattle.heap_rule.specs.declared.phase.Stage.TheVariants.{In}
 use Rattle.heap_rule.specs.Layout.{before_heap, at_address}
 use Rattle.heap_rule.specs.Places.{Place}
-use Rattle.heap_rule.specs.Pools.{limit_of, owned, drawn_in, Tenancy, Hunts, Hunter, OwnPlace, Grid, Latest, DrawsFor, IsBefore, spot_at, place_in, size_of, blocks_of, prepared_at}
+use Rattle.heap_rule.specs.Pools.{limit_of, owned, drawn_in, Tenancy, Hunts, Hunter, OwnPlace, Grid, Latest, DrawsFor, IsPassed, freed_at, search_at, place_in, size_of, blocks_of, prepared_at}
 use Rattle.heap_rule.specs.Raw.{MayStore, Closes}
 use Rattle.heap_rule.specs.Rule.{Rule}
-use Rattle.heap_rule.specs.Token.{LooksWithin, OwnFits}
+use Rattle.heap_rule.specs.Token.{OwnFits}
 use Rattle.heap_rule.specs.Views.{one}
 use Rattle.step_promote.specs.Claims.{preparing, with_hunt, LabelStoreMay, LabelStoreTold, HeadStoreMay, HeadStoreTold, FreeMay, freed, FreedTold}
 use Rattle.step_promote.specs.Writes.{CanPrepare, Frees}
@@ -37,22 +38,11 @@ use Rattle.step_promote.proofs.Remaking.{keeps_blocks, stood_same, no_spare}
 use Rattle.std.proofs.lemmas.Option.{none-some, same_Some}
 
 -- the places of a class are looked at from another place on
-looked_here : (l : List Spot) (class : ℕ) (v : Spot) → length l ≡ class_count → class < class_count → spot_at (set l class v) class ≡ v
+looked_here : (l : List Search) (class : ℕ) (v : Search) → length l ≡ class_count → class < class_count → search_at (set l class v) class ≡ v
 looked_here l class v wide few = get_or-set_same l class v _ (subst (λ (n : ℕ). class < n) (sym wide) few)
 
-looked_else : (l : List Spot) (class c : ℕ) (v : Spot) → c ≢ class → spot_at (set l class v) c ≡ spot_at l c
+looked_else : (l : List Search) (class c : ℕ) (v : Search) → c ≢ class → search_at (set l class v) c ≡ search_at l c
 looked_else l class c v other = get_or-set_other l class c v _ other
-
--- what comes before a place that comes before another does so too
-before_trans : (q i pool slot : ℕ) (spot : Spot) → IsBefore q i (record { pool = pool; slot = slot }) → IsBefore pool slot spot → IsBefore q i spot
-before_trans q i pool slot spot a b = ⊎_elim
-    (λ (h : q < pool). ⊎_elim (λ (g : pool < spot.pool). inl (let o : q < spot.pool = omega arith in o)) (λ (g : (pool ≡ spot.pool) × (slot < spot.slot)). let e : pool ≡ spot.pool = g.0 in inl (let o : q < spot.pool = omega arith in o)) b)
-    (λ (h : (q ≡ pool) × (i < slot)). let e : q ≡ pool = h.0 in let f : i < slot = h.1 in
-    ⊎_elim (λ (g : pool < spot.pool). inl (let o : q < spot.pool = omega arith in o)) (λ (g : (pool ≡ spot.pool) × (slot < spot.slot)). let u : pool ≡ spot.pool = g.0 in let v : slot < spot.slot = g.1 in inr ((let o : q ≡ spot.pool = omega arith in o), (let o : i < spot.slot = omega arith in o))) b)
-    a
-
-before_self : (q i : ℕ) → IsBefore q i (record { pool = q; slot = i }) → ⊥
-before_self q i b = ⊎_elim (λ (h : q < q). omega arith) (λ (h : (q ≡ q) × (i < i)). let f : i < i = h.1 in omega arith) b
 
 module _ (k : Config) (s : Words) (r : Rule k s) (id : ℕ) (hist : List Entry) (x : DomainView) (at : get_elem? s.views id ≡ some (one k hist x)) (promotes : x.seen.stage ≡ In Promote)
     (a c0 : ℕ) (few0 : c0 < class_count) (held : prepared_at x.own.prepared c0 ≡ Some a) where
@@ -162,7 +152,7 @@ module _ (k : Config) (s : Words) (r : Rule k s) (id : ℕ) (hist : List Entry) 
           })
 
   -- the place is given back: its head is Free
-  module _ (looked : List Spot) (from : (q c j : ℕ) → t.holder q ≡ owned me c → j < blocks_of c → IsBefore q j (spot_at looked c) → IsBefore q j (spot_at x.own.looked c) × (place_in q c j ≢ a)) (draws : drawn_in x.seen.hunt ≡ None) (class_none : (c : ℕ) → DrawsFor c x.seen.hunt → ⊥) (rests : x.seen.hunt ≡ Rests)
+  module _ (looked : List Search) (from : (q c j : ℕ) → t.holder q ≡ owned me c → j < blocks_of c → IsPassed q j (search_at looked c) → IsPassed q j (search_at x.own.looked c) × (place_in q c j ≢ a)) (draws : drawn_in x.seen.hunt ≡ None) (class_none : (c : ℕ) → DrawsFor c x.seen.hunt → ⊥) (rests : x.seen.hunt ≡ Rests)
       (wide : length x.own.prepared ≡ class_count) where
     abbrev prepared' : ℕ → Option ℕ
     prepared' = over a None t.prepared
@@ -308,16 +298,6 @@ head_store_may k x word a new place may fits slots id hist s r _ at _ =
       (record { label = may.label; hunt = may.hunt; view = refl }, refl),
     )
 
--- whether a place comes before another
-before_dec : (pool slot : ℕ) (spot : Spot) → Dec (IsBefore pool slot spot)
-before_dec pool slot spot = dite (dec_le spot.pool pool)
-    (λ le. dite (ℕ_discrete pool spot.pool)
-    (λ same. dite (dec_le spot.slot slot)
-    (λ past. no (λ b. ⊎_elim (λ (h : pool < spot.pool). let l : spot.pool ≤ pool = le in omega arith) (λ (h : (pool ≡ spot.pool) × (slot < spot.slot)). let l : spot.slot ≤ slot = past in let f = h.1 in omega arith) b))
-    (λ here. yes (inr (same, lt_of_not-le here))))
-    (λ other. no (λ b. ⊎_elim (λ (h : pool < spot.pool). let l : spot.pool ≤ pool = le in omega arith) (λ (h : (pool ≡ spot.pool) × (slot < spot.slot)). other h.0) b)))
-    (λ gt. yes (inl (lt_of_not-le gt)))
-
 -- two places of a class at one address
 same_place : (k : Config) (class q i pool slot : ℕ) → class < class_count → i < blocks_of class → slot < blocks_of class → place_in q class i ≡ place_in pool class slot → (q ≡ pool) × (i ≡ slot)
 same_place k class q i pool slot few inside inside' same =
@@ -335,9 +315,9 @@ same_place k class q i pool slot few inside inside' same =
           (λ above. let g : w + y ≤ u = slot_below class slot i (lt_of_not-le above) in omega arith))),
     )
 
--- which places come before the one from which the search goes on
-abbrev earlier_spot : (x : DomainView) (pool class slot : ℕ) → List Spot
-earlier_spot x pool class slot = set x.own.looked class (record { pool = pool; slot = slot })
+-- how far the domain has looked, once the place is free for the search
+abbrev freed_looks : (x : DomainView) (pool class slot : ℕ) → List Search
+freed_looks x pool class slot = set x.own.looked class (freed_at pool slot (search_at x.own.looked class))
 
 pub free_may : (k : Config) (x : DomainView) (word a pool class slot : ℕ) → word ≡ before_heap k + a → FreeMay x a pool class slot → MayStore k x word 0 (FreedTold pool class slot)
 free_may k x word a pool class slot place may fits slots id hist s r _ at _ =
@@ -346,64 +326,34 @@ free_may k x word a pool class slot place may fits slots id hist s r _ at _ =
     let H = (my_good k s r id hist x at).hunter in
     let u = (H.holds class a may.of_class may.prepared).1 in
     let d = rests_draw x.seen.hunt may.at_rest in
-    let Before : Type 0 = IsBefore pool slot (spot_at x.own.looked class) in
-    let spot_at_place : (q c j : ℕ) → t.holder q ≡ owned me c → j < blocks_of c → place_in q c j ≡ a → (q ≡ u.0) × (c ≡ class) × (j ≡ u.1) = (λ q c j owned_is below same. let z = place_sole k t s.words q me c j u.0 me class u.1 r.whole.pools owned_is below u.2 u.3 (same ∙ u.4) in (z.0, z.2, z.3)) in
+    let looked : List Search = freed_looks x pool class slot in
+    let here_at : (q c j : ℕ) → t.holder q ≡ owned me c → j < blocks_of c → place_in q c j ≡ a → (q ≡ u.0) × (c ≡ class) × (j ≡ u.1) = (λ q c j owned_is below same. let z = place_sole k t s.words q me c j u.0 me class u.1 r.whole.pools owned_is below u.2 u.3 (same ∙ u.4) in (z.0, z.2, z.3)) in
     let pool_is : (u.0 ≡ pool) × (u.1 ≡ slot) = same_place k class u.0 u.1 pool slot may.of_class u.3 may.inside (sym u.4 ∙ may.word) in
-    dite (before_dec pool slot (spot_at x.own.looked class))
-    (λ (before : Before).
-    let y : DomainView = freed x class (earlier_spot x pool class slot) in (
+    let y : DomainView = freed x class looked in (
       one k hist y,
       keeps,
       tt,
       subst (λ (n : ℕ). Rule k record { words = set s.words n 0; homes = s.homes; views = set s.views id (one k hist y) }) (sym (place ∙ (let g : before_heap k + a ≡ before_heap k + (a + 0) = omega arith in g)))
-          (frees_rule k s r id hist x at may.stage a class may.of_class may.prepared (earlier_spot x pool class slot)
+          (frees_rule k s r id hist x at may.stage a class may.of_class may.prepared looked
           (λ q c j owned_is below low. dite (ℕ_discrete c class)
           (λ same.
-          let spot : spot_at (earlier_spot x pool class slot) c ≡ record { pool = pool; slot = slot } = ap (spot_at (earlier_spot x pool class slot)) same ∙ looked_here x.own.looked class (record { pool = pool; slot = slot }) fits.looked.wide may.of_class in
-          let low' : IsBefore q j (record { pool = pool; slot = slot }) = subst (IsBefore q j) spot low in (
-            subst (λ (n : ℕ). IsBefore q j (spot_at x.own.looked n)) (sym same) (before_trans q j pool slot (spot_at x.own.looked class) low' before),
-            (λ here. let z = spot_at_place q c j owned_is below here in before_self pool slot (subst (λ (n : ℕ × ℕ). IsBefore n.0 n.1 (record { pool = pool; slot = slot })) (λ i. ((z.0 ∙ pool_is.0) i, (z.2 ∙ pool_is.1) i)) low')),
+          let spot : search_at looked c ≡ freed_at pool slot (search_at x.own.looked class) = ap (search_at looked) same ∙ looked_here x.own.looked class (freed_at pool slot (search_at x.own.looked class)) fits.looked.wide may.of_class in
+          let was = passed_freed q j pool slot (search_at x.own.looked class) (subst (IsPassed q j) spot low) in (
+            subst (λ (n : ℕ). IsPassed q j (search_at x.own.looked n)) (sym same) was.0,
+            (λ here. let z = here_at q c j owned_is below here in was.1 (z.0 ∙ pool_is.0, z.2 ∙ pool_is.1)),
           ))
-          (λ other. (subst (IsBefore q j) (looked_else x.own.looked class c (record { pool = pool; slot = slot }) other) low, (λ here. other (spot_at_place q c j owned_is below here).1))))
+          (λ other. (subst (IsPassed q j) (looked_else x.own.looked class c (freed_at pool slot (search_at x.own.looked class)) other) low, (λ here. other (here_at q c j owned_is below here).1))))
           d.0 d.1 may.at_rest fits.prepared),
-      (record { earlier = λ _. refl; later = λ n. absurd (n before) }, refl),
-    ))
-    (λ (not_before : Before → ⊥).
-    let y : DomainView = freed x class x.own.looked in (
-      one k hist y,
-      keeps,
-      tt,
-      subst (λ (n : ℕ). Rule k record { words = set s.words n 0; homes = s.homes; views = set s.views id (one k hist y) }) (sym (place ∙ (let g : before_heap k + a ≡ before_heap k + (a + 0) = omega arith in g)))
-          (frees_rule k s r id hist x at may.stage a class may.of_class may.prepared x.own.looked
-          (λ q c j owned_is below low. (
-            low,
-            (λ here. let z = spot_at_place q c j owned_is below here in
-                not_before (subst (λ (n : ℕ × ℕ × ℕ). IsBefore n.0 n.1 (spot_at x.own.looked n.2)) (λ i. ((z.0 ∙ pool_is.0) i, (z.2 ∙ pool_is.1) i, z.1 i)) low)),
-          ))
-          d.0 d.1 may.at_rest fits.prepared),
-      (record { earlier = λ b. absurd (not_before b); later = λ _. refl }, refl),
-    ))
+      (refl, refl),
+    )
 
--- it closes where the list of prepared places, and where the search begins, were written
+-- it closes where the list of prepared places, and how far it was looked, were written
 pub free_closes : (k : Config) (x : DomainView) (a pool class slot : ℕ) → pool ≤ k.pools → FreeMay x a pool class slot → Closes k x 0 (FreedTold pool class slot) (λ own. CanPrepare class) (Frees pool class slot)
 free_closes k x a pool class slot inside may y fits told =
-    let Before : Type 0 = IsBefore pool slot (spot_at x.own.looked class) in
-    let spot : Spot = record { pool = pool; slot = slot } in
-    dite (before_dec pool slot (spot_at x.own.looked class))
-    (λ (before : Before). let own : y.own ≡ record (preparing x.own class None) { looked = set x.own.looked class spot } = ap (λ (z : DomainView). z.own) (told.earlier before) in record {
+    let spot : Search = freed_at pool slot (search_at x.own.looked class) in
+    let own : y.own ≡ record (preparing x.own class None) { looked = set x.own.looked class spot } = ap (λ (z : DomainView). z.own) told in record {
       can_write = may.of_class;
-      written = λ after wrote. own ∙ sym (wrote.earlier before);
-      fits = let looks : LooksWithin k (set x.own.looked class spot) = record {
-        wide = length-set x.own.looked class spot ∙ fits.looked.wide;
-        within = λ c few. dite (ℕ_discrete c class)
-            (λ same. subst (λ (z : Spot). (z.pool ≤ k.pools) × (z.slot < blocks_of c)) (sym (ap (spot_at (set x.own.looked class spot)) same ∙ looked_here x.own.looked class spot fits.looked.wide may.of_class)) (inside, subst (λ (n : ℕ). slot < blocks_of n) (sym same) may.inside))
-            (λ other. subst (λ (z : Spot). (z.pool ≤ k.pools) × (z.slot < blocks_of c)) (sym (looked_else x.own.looked class c spot other)) (fits.looked.within c few));
-      } in subst (OwnFits k) (sym own) (fits_with k x.own (set x.own.looked class spot) (set x.own.prepared class None) x.own.pending x.own.ephemerons x.own.swept looks (length-set x.own.prepared class None ∙ fits.prepared) fits.pending fits.ephemerons fits.swept fits);
+      written = λ after wrote. own ∙ sym wrote;
+      fits = subst (OwnFits k) (sym own) (fits_with k x.own (set x.own.looked class spot) (set x.own.prepared class None) x.own.pending x.own.ephemerons x.own.swept (looks_freed k x.own.looked pool class slot inside may.of_class may.inside fits.looked) (length-set x.own.prepared class None ∙ fits.prepared) fits.pending fits.ephemerons fits.swept fits);
       once = promote_once k x y may.stage;
-    })
-    (λ (not_before : Before → ⊥). let own : y.own ≡ preparing x.own class None = ap (λ (z : DomainView). z.own) (told.later not_before) in record {
-      can_write = may.of_class;
-      written = λ after wrote. own ∙ sym (wrote.later not_before);
-      fits = subst (OwnFits k) (sym own) (prepared_fits k x.own (set x.own.prepared class None) (length-set x.own.prepared class None ∙ fits.prepared) fits);
-      once = promote_once k x y may.stage;
-    })
+    }

@@ -16,7 +16,7 @@ use Rattle.heap_rule.specs.declared.phase.Kind.TheVariants.{Promote}
 use Rattle.heap_rule.specs.declared.phase.Stage.TheVariants.{In}
 use Rattle.heap_rule.specs.Layout.{before_heap, at_address}
 use Rattle.heap_rule.specs.Places.{Place}
-use Rattle.heap_rule.specs.Pools.{limit_of, owned, drawn_in, Tenancy, Filling, Hunts, Hunter, OwnPlace, IsSpare, Grid, Latest, DrawsFor, Drawers, IsCopying, IsBefore, spot_at, place_in, blocks_of, prepared_at}
+use Rattle.heap_rule.specs.Pools.{limit_of, owned, drawn_in, Tenancy, Filling, Hunts, Hunter, OwnPlace, IsSpare, Grid, Latest, DrawsFor, Drawers, IsCopying, IsBefore, IsPassed, place_of, search_at, place_in, blocks_of, prepared_at}
 use Rattle.heap_rule.specs.Raw.{MayStore, Written, Closes}
 use Rattle.heap_rule.specs.Rule.{state_of, Rule}
 use Rattle.heap_rule.specs.Token.{OwnFits}
@@ -149,8 +149,8 @@ module _ (k : Config) (s : Words) (r : Rule k s) (id : ℕ) (hist : List Entry) 
         (λ ne.
         let less : u < j = (let n : j ≢ u = ne in omega arith) in
         let u_below : u < blocks_of c = (let b : j < blocks_of c = below in omega arith) in
-        let spot : spot_at x.own.looked c ≡ record { pool = pool; slot = slot } = ap (spot_at x.own.looked) one_is.2 ∙ may.next in
-        let before : IsBefore q u (spot_at x.own.looked c) = subst (λ (z : Spot). IsBefore q u z) (sym spot) (inr (one_is.0, subst (λ (n : ℕ). u < n) one_is.3 less)) in
+        let spot : place_of (search_at x.own.looked c) ≡ record { pool = pool; slot = slot } = ap (λ (n : ℕ). place_of (search_at x.own.looked n)) one_is.2 ∙ may.next in
+        let before : IsPassed q u (search_at x.own.looked c) = inl (subst (IsBefore q u) (sym spot) (inr (one_is.0, subst (λ (n : ℕ). u < n) one_is.3 less))) in
         absurd (⊎_elim (λ (z : at_address k s.words (place_in q c u) ≡ 0). H.taken q c u l.own_is u_below before z)
         (λ (z : (u ≡ u) × (t.prepared (place_in q c u) ≡ Some me)). none-some (place_in q c u) (sym may.none ∙ (ap (prepared_at x.own.prepared) (sym one_is.2) ∙ H.prepared q c u l.own_is u_below z.1)))
         (l.rest u (omega arith) u_below)))

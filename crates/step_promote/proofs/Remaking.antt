@@ -17,7 +17,7 @@ use Rattle.heap_rule.specs.declared.view.DomainView.{DomainView}
 use Rattle.heap_rule.specs.declared.view.Finalisers.{Finalisers}
 use Rattle.heap_rule.specs.declared.view.Hunt.{Hunt}
 use Rattle.heap_rule.specs.declared.view.Share.{Share}
-use Rattle.heap_rule.specs.declared.view.Spot.{Spot}
+use Rattle.heap_rule.specs.declared.view.Search.{Search}
 use Rattle.heap_rule.specs.Layout.{cursor, listed}
 use Rattle.heap_rule.specs.declared.view.Swept.{Swept}
 use Rattle.heap_rule.specs.declared.phase.Kind.TheVariants.{Run, Promote, Reset}
@@ -213,7 +213,7 @@ module _ (k : Config) (s : Words) (r : Rule k s) (id : ℕ) (hist : List Entry) 
   }
 
   -- What a step owes at which no block comes, goes or moves: registers, registrations, prepared places and what it has met may differ, and words where no block lives
-  module _ (registers : List words.Value) (finalisers : Finalisers) (prepared : List (Option ℕ)) (looked : List Spot) (hunt : Hunt) (copying : Copying) where
+  module _ (registers : List words.Value) (finalisers : Finalisers) (prepared : List (Option ℕ)) (looked : List Search) (hunt : Hunt) (copying : Copying) where
     abbrev then : DomainView
     then = record { own = record x.own { registers = registers; finalisers = finalisers; prepared = prepared; looked = looked }; seen = record x.seen { hunt = hunt; copying = copying } }
 

@@ -10,12 +10,12 @@ use Rattle.heap_rule.specs.declared.config.Config.{Config}
 use Rattle.heap_rule.specs.declared.view.Hunt.{Hunt}
 use Rattle.heap_rule.specs.declared.view.Hunt.TheVariants.{Rests, Fills, Labels, Heads}
 use Rattle.heap_rule.specs.declared.view.Own.{Own}
-use Rattle.heap_rule.specs.declared.view.Spot.{Spot}
+use Rattle.heap_rule.specs.declared.view.Search.{Search}
 use Rattle.heap_rule.specs.declared.view.DomainView.{DomainView}
 use Rattle.heap_rule.specs.declared.phase.Kind.TheVariants.{Promote}
 use Rattle.heap_rule.specs.declared.phase.Stage.TheVariants.{In}
 use Rattle.heap_rule.specs.Places.{Place, extent, IsNewHead, IsOldAt, More}
-use Rattle.heap_rule.specs.Pools.{place_in, blocks_of, spot_at, IsBefore, prepared_at}
+use Rattle.heap_rule.specs.Pools.{place_in, blocks_of, place_of, search_at, freed_at, prepared_at}
 use Rattle.heap_rule.specs.Standing.{IsInHeap}
 use Rattle.step_promote.specs.Promotion.{Knows, AllFit, met_of}
 
@@ -32,7 +32,7 @@ pub record PrepareMay (x : DomainView) (at new pool class slot : ℕ) : Type 0 w
   pub stage : x.seen.stage ≡ In Promote
   pub made : List ℕ
   pub hunt : x.seen.hunt ≡ Fills pool class slot made
-  pub next : spot_at x.own.looked class ≡ record { pool = pool; slot = slot }
+  pub next : place_of (search_at x.own.looked class) ≡ record { pool = pool; slot = slot }
   pub none : prepared_at x.own.prepared class ≡ None
   pub of_class : class < class_count
   pub word : at ≡ place_in pool class slot
@@ -119,10 +119,9 @@ pub record FreeMay (x : DomainView) (at pool class slot : ℕ) : Type 0 where
   pub word : at ≡ place_in pool class slot
   pub inside : slot < blocks_of class
 
--- and the search for free places of the class begins there, where it was further on
-abbrev pub freed : DomainView → ℕ → List Spot → DomainView
+-- it isn't prepared any more, and so far the domain has looked for free places
+abbrev pub freed : DomainView → ℕ → List Search → DomainView
 freed x class looked = record x { own = record (preparing x.own class None) { looked = looked } }
 
-pub record FreedTold (pool class slot : ℕ) (x : DomainView) (new : ℕ) (y : DomainView) : Type 0 where
-  pub earlier : IsBefore pool slot (spot_at x.own.looked class) → y ≡ freed x class (slice_set x.own.looked class (record { pool = pool; slot = slot }))
-  pub later : (IsBefore pool slot (spot_at x.own.looked class) → ⊥) → y ≡ freed x class x.own.looked
+abbrev pub FreedTold : ℕ → ℕ → ℕ → DomainView → ℕ → DomainView → Type 0
+FreedTold pool class slot x new y = y ≡ freed x class (slice_set x.own.looked class (freed_at pool slot (search_at x.own.looked class)))

@@ -5,7 +5,7 @@ use Rattle.heap_words.specs.declared.value.Value.TheVariants.{Ref}
 use Rattle.heap_rule.specs.declared.view.Held.{Held}
 use Rattle.heap_rule.specs.declared.view.Own.{Own}
 use Rattle.heap_rule.specs.Finalisers.{held_at}
-use Rattle.heap_rule.specs.Pools.{spot_at, IsBefore}
+use Rattle.heap_rule.specs.Pools.{search_at, freed_at}
 use Rattle.step_promote.specs.Claims.{preparing, pushed}
 use Rattle.step_promote.specs.Promotion.{with_held}
 
@@ -25,10 +25,9 @@ pub record Claims (class copy source old found : ℕ) (own after : Own) : Type 0
   pub won : found ≡ old → after ≡ preparing (pushed own copy source) class None
   pub lost : found ≢ old → after ≡ own
 
--- the place is given back, and the search begins there where it was further on
-pub record Frees (pool class slot : ℕ) (own after : Own) : Type 0 where
-  pub earlier : IsBefore pool slot (spot_at own.looked class) → after ≡ record (preparing own class None) { looked = slice_set own.looked class (record { pool = pool; slot = slot }) }
-  pub later : (IsBefore pool slot (spot_at own.looked class) → ⊥) → after ≡ preparing own class None
+-- the place is given back, and is free for the search
+abbrev pub Frees : ℕ → ℕ → ℕ → Own → Own → Type 0
+Frees pool class slot own after = after ≡ record (preparing own class None) { looked = slice_set own.looked class (freed_at pool slot (search_at own.looked class)) }
 
 -- the register gets the copy's address
 abbrev pub CanMove : ℕ → Type 0

@@ -5,7 +5,7 @@ ghost use Rattle.heap_rule.specs.Token.{IsIn};
 ghost use Rattle.step_promote.specs.Claims.{ClaimMay, ClaimTold, FreeMay, FreedTold, HeadStoreMay, HeadStoreTold, LabelStoreMay, LabelStoreTold, PrepareMay, PrepareTold};
 
 use heap_rule::{
-    Change, Copied, Domain, Heap, Leaving, Own, Spot, Writing, raw_exchange, raw_store,
+    Change, Copied, Domain, Heap, Leaving, Own, Writing, raw_exchange, raw_store,
 };
 use std::marker::Brand;
 
@@ -89,13 +89,7 @@ impl Writing for Freeing {
     fn write(&self, _found: u64, _changes: &[Change], own: &mut Own) {
         let class = self.class as usize;
         own.prepared[class] = None;
-        let spot = own.looked[class];
-        if self.pool < spot.pool || (self.pool == spot.pool && self.slot < spot.slot) {
-            own.looked[class] = Spot {
-                pool: self.pool,
-                slot: self.slot,
-            };
-        }
+        own.looked[class] = own.looked[class].freed(self.pool, self.slot);
     }
 }
 

@@ -16,6 +16,7 @@ use Rattle.heap_rule.specs.declared.view.DomainView.{DomainView}
 use Rattle.heap_rule.specs.declared.view.Reaping.{Reaping}
 use Rattle.heap_rule.specs.declared.view.Reaping.TheVariants.{Outside, Inside, AtGarbage}
 use Rattle.heap_rule.specs.declared.view.Share.{Share}
+use Rattle.heap_rule.specs.declared.view.Search.{Search}
 use Rattle.heap_rule.specs.declared.view.Spot.{Spot}
 use Rattle.heap_rule.specs.Copies.{Promoting}
 use Rattle.heap_rule.specs.Beside.{RunsBeside}
@@ -23,7 +24,7 @@ use Rattle.heap_rule.specs.Cycles.{Cycled, Facts, IsCollecting, IsIdle, Knowing,
 use Rattle.heap_rule.specs.Ephemerons.{IsEpheAt, Listed}
 use Rattle.heap_rule.specs.Layout.{at_address, before_heap, heap_words}
 use Rattle.heap_rule.specs.Places.{Place, extent}
-use Rattle.heap_rule.specs.Pools.{Grid, Hunter, Hunts, IsBefore, OwnPlace, Stock, Tenancy, blocks_of, limit_of, owned, place_in, size_of, spot_at}
+use Rattle.heap_rule.specs.Pools.{Grid, Hunter, Hunts, IsBefore, IsPassed, OwnPlace, Stock, Tenancy, blocks_of, limit_of, owned, place_in, size_of, first_search, freed_at, search_at}
 use Rattle.heap_rule.specs.Raw.{MayStore}
 use Rattle.heap_rule.specs.Rule.{AllFound, Good, Making, Rule, Sharing, state_of}
 use Rattle.heap_rule.specs.Sweeping.{Reaps, SweepsIn}
@@ -38,9 +39,9 @@ use Rattle.heap_rule.proofs.OwnPlaces.{owned_same}
 use Rattle.heap_rule.proofs.Sharings.{SameCycle, facts_words, leading_words}
 use Rattle.step_marks.proofs.OfMarking.Learning.{at_other, at_same, kind_here}
 use Rattle.step_marks.proofs.OfMarking.WalkSteps.{before_behind}
-use Rattle.step_sweep.specs.Freeing.{FreeMay, FreeTold, earlier, freed}
+use Rattle.step_sweep.specs.Freeing.{FreeMay, FreeTold, freed}
 use Rattle.step_sweep.proofs.CountSteps.{one_place}
-use Rattle.step_sweep.proofs.Earlier.{before_both}
+use Rattle.heap_rule.proofs.Searches.{passed_freed}
 use Rattle.step_sweep.proofs.Finding.{calm as not_copying, waits}
 use Rattle.step_sweep.proofs.Reaping.{reaped_to, reaps}
 use Rattle.step_sweep.proofs.Removals.{seen_at}
@@ -204,29 +205,26 @@ module _ (k : Config) (s : Words) (r : Rule k s) (id : ℕ) (hist : List Entry) 
   abbrev here : Spot
   here = record { pool = pool; slot = slot }
 
-  abbrev looked' : List Spot
-  looked' = set x.own.looked class (earlier here (spot_at x.own.looked class))
+  abbrev looked' : List Search
+  looked' = set x.own.looked class (freed_at pool slot (search_at x.own.looked class))
 
-  -- what is before the earlier of two places is before both
-  before_looked : (q cl i : ℕ) → IsBefore q i (spot_at looked' cl) → IsBefore q i (spot_at x.own.looked cl) × (cl ≡ class → IsBefore q i here)
-  before_looked q cl i before = dite (ℕ_discrete cl class)
+  -- what is passed once the place is free again was passed before, and isn't the place
+  passed_looked : (q cl i : ℕ) → IsPassed q i (search_at looked' cl) → IsPassed q i (search_at x.own.looked cl) × (cl ≡ class → (q ≡ pool) × (i ≡ slot) → ⊥)
+  passed_looked q cl i passed = dite (ℕ_discrete cl class)
       (λ same.
-      let b = before_both here (spot_at x.own.looked class) q i (subst (IsBefore q i) (ap (spot_at looked') same ∙ get_or-set_same x.own.looked class (earlier here (spot_at x.own.looked class)) (record { pool = 0; slot = 0 }) (let few = own_by.2 in omega arith)) before) in
-      (subst (λ (n : ℕ). IsBefore q i (spot_at x.own.looked n)) (sym same) b.1, λ _. b.0))
-      (λ other. (subst (IsBefore q i) (get_or-set_other x.own.looked class cl (earlier here (spot_at x.own.looked class)) (record { pool = 0; slot = 0 }) other) before, λ same. absurd (other same)))
+      let b = passed_freed q i pool slot (search_at x.own.looked class) (subst (IsPassed q i) (ap (search_at looked') same ∙ get_or-set_same x.own.looked class (freed_at pool slot (search_at x.own.looked class)) first_search (let few = own_by.2 in omega arith)) passed) in
+      (subst (λ (n : ℕ). IsPassed q i (search_at x.own.looked n)) (sym same) b.0, λ _. b.1))
+      (λ other. (subst (IsPassed q i) (get_or-set_other x.own.looked class cl (freed_at pool slot (search_at x.own.looked class)) first_search other) passed, λ same. absurd (other same)))
 
   -- the places at which the domain has looked aren't this one
-  taken' : (q cl i : ℕ) → t.holder q ≡ owned d cl → i < blocks_of cl → IsBefore q i (spot_at looked' cl) → at_address k words' (place_in q cl i) ≢ 0
-  taken' q cl i is below before =
-      let was = before_looked q cl i before in
+  taken' : (q cl i : ℕ) → t.holder q ≡ owned d cl → i < blocks_of cl → IsPassed q i (search_at looked' cl) → at_address k words' (place_in q cl i) ≢ 0
+  taken' q cl i is below passed =
+      let was = passed_looked q cl i passed in
       let differ : place_in q cl i ≢ a = (λ e.
       let few : cl < class_count = (r.whole.pools.owned_by q d cl is).2 in
       let class_in : q ≡ pool → cl ≡ class = (λ same. (owned_same d d cl class (sym is ∙ (ap t.holder same ∙ own))).1) in
       let one = one_place q cl i slot pool class few own_by.2 below inside class_in (e ∙ may.word) in
-      ⊎_elim
-      (λ (h : q < pool). let same : q ≡ pool = one.0 in omega arith)
-      (λ (h : (q ≡ pool) × (i < slot)). let same : i ≡ slot = one.1 in let l = h.1 in omega arith)
-      (was.1 (class_in one.0))) in
+      was.1 (class_in one.0) one) in
       λ e. good.hunter.taken q cl i is below was.0 (sym (stays (place_in q cl i) differ) ∙ e)
 
   -- what was free is free

@@ -10,20 +10,20 @@ use Rattle.heap_rule.specs.declared.view.Reaping.TheVariants.{Inside, AtGarbage}
 use Rattle.heap_rule.specs.declared.view.Spot.{Spot}
 use Rattle.heap_rule.specs.declared.view.Swept.{Swept}
 use Rattle.heap_rule.specs.Limits.{sizes_in}
-use Rattle.heap_rule.specs.Pools.{blocks_of, spot_at}
+use Rattle.heap_rule.specs.Pools.{blocks_of}
 use Rattle.heap_rule.specs.Raw.{Closes, StepsOnce}
 use Rattle.step_sweep.specs.Returning.{IsOwn, SinksTop, TopMay, TopTold, topped}
 use Rattle.step_pools.specs.Writes.{pool_after}
 use Rattle.step_pools.proofs.Tops.{after_within}
 use Rattle.heap_rule.specs.Sweeping.{nothing_swept}
-use Rattle.heap_rule.specs.Token.{AllInHeap, LooksWithin, OwnFits, SweptWithin}
+use Rattle.heap_rule.specs.Token.{AllInHeap, OwnFits, SweptWithin}
 use Rattle.heap_rule.proofs.Classes.{some_block}
 use Rattle.heap_rule.proofs.Closes.{front_same}
 use Rattle.step_marks.specs.Marking.Looks.{with_share}
 use Rattle.step_marks.specs.Marking.Marking.{behind}
 use Rattle.step_marks.proofs.OfMarking.WalkSteps.{last_behind, next_behind}
-use Rattle.step_sweep.proofs.Earlier.{order_of}
-use Rattle.step_sweep.specs.Freeing.{AnewTold, CanFree, CanSweep, CanSweepOwn, FreeTold, FreesPlace, IsAmong, IsColoured, SweepOwnTold, SweepTold, SweepsOwn, SweepsPlace, earlier, freed_own, passed, sweeping_from, unswept}
+use Rattle.heap_rule.proofs.Searches.{looks_freed}
+use Rattle.step_sweep.specs.Freeing.{AnewTold, CanFree, CanSweep, CanSweepOwn, FreeTold, FreesPlace, IsAmong, IsColoured, SweepOwnTold, SweepTold, SweepsOwn, SweepsPlace, freed_own, passed, sweeping_from, unswept}
 use Rattle.heap_rule.proofs.Fits.{fits_with, swept_fits}
 
 few_pools : (k : Config) (pool : ℕ) → IsWithinLimits (sizes_in k) → pool < k.pools → pool < 2048
@@ -100,26 +100,11 @@ sweep_closes k x found pool class slot garbage inside few low limits y fits told
     })
     told.told
 
--- where the search for free places begins lies within the pools
-freed_within : (k : Config) (looked : List Spot) (pool class slot : ℕ) → pool < k.pools → class < class_count → slot < blocks_of class → LooksWithin k looked → LooksWithin k (set looked class (earlier (record { pool = pool; slot = slot }) (spot_at looked class)))
-freed_within k looked pool class slot inside few low l =
-    let here : Spot = record { pool = pool; slot = slot } in
-    let spot : Spot = earlier here (spot_at looked class) in record {
-      wide = length-set looked class spot ∙ l.wide;
-      within = λ c below. dite (ℕ_discrete c class)
-          (λ same. subst (λ (z : Spot × ℕ). (z.0.pool ≤ k.pools) × (z.0.slot < blocks_of z.1)) (λ i. (sym (ap (spot_at (set looked class spot)) same ∙ get_or-set_same looked class spot (record { pool = 0; slot = 0 }) (subst (λ (n : ℕ). class < n) (sym l.wide) few)) i, sym same i))
-          (⊎_elim
-          (λ h. subst (λ (z : Spot). (z.pool ≤ k.pools) × (z.slot < blocks_of class)) (sym h.0) ((let p : ℕ = k.pools in let i : pool < p = inside in let g : pool ≤ p = omega arith in g), low))
-          (λ h. subst (λ (z : Spot). (z.pool ≤ k.pools) × (z.slot < blocks_of class)) (sym h.0) (l.within class few))
-          (order_of here (spot_at looked class))))
-          (λ other. subst (λ (z : Spot). (z.pool ≤ k.pools) × (z.slot < blocks_of c)) (sym (get_or-set_other looked class c spot (record { pool = 0; slot = 0 }) other)) (l.within c below));
-    }
-
 pub free_closes : (k : Config) (x : DomainView) (pool class slot : ℕ) → pool < k.pools → class < class_count → slot < blocks_of class → IsWithinLimits (sizes_in k) → Closes k x 0 (FreeTold pool class slot) (CanFree pool class slot) (FreesPlace pool class slot)
 free_closes k x pool class slot inside few low limits y fits told = let own : y.own ≡ freed_own pool class slot x.own = ap (λ (z : DomainView). z.own) told in let b = behind_within k pool class slot x.own.swept.listed x.own.swept.top inside few fits.swept.top in record {
   can_write = (few_pools k pool limits inside, few, low, fits.looked.wide);
   written = λ after is. own ∙ sym is;
-  fits = subst (OwnFits k) (sym own) (fits_with k x.own (freed_own pool class slot x.own).looked x.own.prepared x.own.pending x.own.ephemerons (freed_own pool class slot x.own).swept (freed_within k x.own.looked pool class slot inside few low fits.looked) fits.prepared fits.pending fits.ephemerons (record { pool = b.pool; slot = b.slot; top = b.top }) fits);
+  fits = subst (OwnFits k) (sym own) (fits_with k x.own (freed_own pool class slot x.own).looked x.own.prepared x.own.pending x.own.ephemerons (freed_own pool class slot x.own).swept (looks_freed k x.own.looked pool class slot (let p : ℕ = k.pools in let i : pool < p = inside in let g : pool ≤ p = omega arith in g) few low fits.looked) fits.prepared fits.pending fits.ephemerons (record { pool = b.pool; slot = b.slot; top = b.top }) fits);
   once = once_same k x y (ap (λ (z : DomainView). z.seen.front) told) (ap (λ (o : Own). o.registers) own) (ap (λ (o : Own). o.used) own) (ap (λ (o : Own). o.serial) own);
 }
 

@@ -1,5 +1,5 @@
 -- What the steps that free garbage ask and tell, in the phase Sweep and beside running domains.
-use Rattle.std.specs.Prelude.{◌≡◌, ℕ, ◌+◌, ◌<◌, ◌≤◌, ◌⊎◌, ◌∷◌, if◌then◌else◌, nat_lt, nat_le, ◌==◌, ◌&&◌, ◌||◌, length, slice_set, Some}
+use Rattle.std.specs.Prelude.{◌≡◌, ℕ, ◌+◌, ◌<◌, ◌≤◌, ◌⊎◌, ◌∷◌, length, slice_set, Some}
 use Rattle.model_core.specs.Domains.{class_count}
 use Rattle.model_core.specs.Fronts.{Shape}
 use Rattle.heap_words.specs.declared.colours.Colours.{Colours}
@@ -13,7 +13,7 @@ use Rattle.heap_rule.specs.declared.view.Own.{Own}
 use Rattle.heap_rule.specs.declared.view.Reaping.TheVariants.{Inside, AtGarbage}
 use Rattle.heap_rule.specs.declared.view.Spot.{Spot}
 use Rattle.heap_rule.specs.Places.{IsHeadOf}
-use Rattle.heap_rule.specs.Pools.{blocks_of, owned, owner_word, place_in, spot_at}
+use Rattle.heap_rule.specs.Pools.{blocks_of, owned, owner_word, place_in, search_at, freed_at}
 use Rattle.heap_rule.specs.Sweeping.{nothing_swept}
 use Rattle.step_marks.specs.Marking.Looks.{with_share}
 use Rattle.step_pools.specs.Writes.{pool_after}
@@ -101,10 +101,6 @@ SweepsPlace pool class slot garbage found own after = ((IsColoured garbage found
 abbrev pub IsNoLater : Spot → Spot → Type 0
 IsNoLater a b = (a.pool < b.pool) ⊎ ((a.pool ≡ b.pool) × (a.slot ≤ b.slot))
 
--- the earlier of two places of pools
-abbrev pub earlier : Spot → Spot → Spot
-earlier a b = if (nat_lt a.pool b.pool || (a.pool == b.pool && nat_le a.slot b.slot)) then a else b
-
 -- the garbage that the domain has found at the next place is freed. No listed ephemeron is garbage any more
 pub record FreeMay (x : DomainView) (at pool class slot : ℕ) : Type 0 where
   pub stage : Frees x.seen.stage
@@ -116,9 +112,9 @@ pub record FreeMay (x : DomainView) (at pool class slot : ℕ) : Type 0 where
   pub next : x.own.swept.spot ≡ record { pool = pool; slot = slot }
   pub pruned : length x.own.ephemerons.items ≤ x.own.swept.listed
 
--- the own data once the place is free: the sweep goes on behind it, and the search for a free place of the class begins at it, or earlier
+-- the own data once the place is free: the sweep goes on behind it, and it is free for the search
 abbrev pub freed_own : ℕ → ℕ → ℕ → Own → Own
-freed_own pool class slot own = record (sweeping_from own (behind pool class slot)) { looked = slice_set own.looked class (earlier (record { pool = pool; slot = slot }) (spot_at own.looked class)) }
+freed_own pool class slot own = record (sweeping_from own (behind pool class slot)) { looked = slice_set own.looked class (freed_at pool slot (search_at own.looked class)) }
 
 abbrev pub freed : ℕ → ℕ → ℕ → DomainView → DomainView
 freed pool class slot x = record (passed pool class slot x) { own = freed_own pool class slot x.own }

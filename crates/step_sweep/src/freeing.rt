@@ -2,7 +2,7 @@
 ghost use Rattle.std.specs.Prelude.{◌≡◌, ◌<◌};
 ghost use Rattle.heap_rule.specs.Standing.{IsInHeap};
 ghost use Rattle.heap_rule.specs.Token.{IsIn};
-ghost use Rattle.step_sweep.specs.Freeing.{AnewMay, AnewTold, earlier, FreeMay, FreeTold, SweepMay, SweepOwnMay, SweepOwnTold, SweepTold};
+ghost use Rattle.step_sweep.specs.Freeing.{AnewMay, AnewTold, FreeMay, FreeTold, SweepMay, SweepOwnMay, SweepOwnTold, SweepTold};
 
 use crate::heads::has_colour;
 use crate::owners::own_class;
@@ -87,18 +87,7 @@ impl Writing for Seeking {
     }
 }
 
-// The earlier of two places of pools.
-fn earlier(a: Spot, b: Spot) -> Spot
-    ensures { result ≡ earlier a b }
-{
-    if a.pool < b.pool || (a.pool == b.pool && a.slot <= b.slot) {
-        a
-    } else {
-        b
-    }
-}
-
-// A place is free: the search for one of its class begins there, or earlier.
+// A place is free for the search for one of its class.
 #[derive(Clone, Copy)]
 struct Freeing {
     pool: u32,
@@ -115,12 +104,8 @@ impl Writing for Freeing {
 
     fn write(&self, _found: u64, _changes: &[Change], own: &mut Own) {
         own.swept.spot = place_behind(self.pool, self.class, self.slot);
-        let here = Spot {
-            pool: self.pool,
-            slot: self.slot,
-        };
-        let looked = own.looked[self.class as usize];
-        own.looked[self.class as usize] = earlier(here, looked);
+        let class = self.class as usize;
+        own.looked[class] = own.looked[class].freed(self.pool, self.slot);
     }
 }
 

@@ -14,7 +14,7 @@ use Rattle.heap_rule.specs.declared.view.RegisteredLast.{RegisteredLast}
 use Rattle.heap_rule.specs.Beside.{IsKnown, IsPaid}
 use Rattle.heap_rule.specs.Changes.{value_at}
 use Rattle.heap_rule.specs.Places.{IsOldAt}
-use Rattle.heap_rule.specs.Pools.{blocks_of, no_listing, spot_at}
+use Rattle.heap_rule.specs.Pools.{blocks_of, no_listing, search_at}
 use Rattle.heap_rule.specs.Standing.{Acts}
 use Rattle.step_run.specs.Fields.Stores.{FieldStoreMay}
 use Rattle.step_run.specs.Exchange.Exchanges.{ExchangeMay}
@@ -91,7 +91,7 @@ pub no_last_is_decided_with_the_others : (x : DomainView) (at i marked : ℕ) (r
 no_last_is_decided_with_the_others x at i marked r m stage = let e : In Decide ≡ In Lasts = sym stage ∙ m.stage in cc
 
 -- no pool is drawn for a copy while own pools of the class weren't all looked through
-pub no_pool_is_drawn_before_a_look : (k : Config) (x : DomainView) (class : ℕ) → CopyDrawMay k x class → (spot_at x.own.looked class).pool < k.pools → ⊥
+pub no_pool_is_drawn_before_a_look : (k : Config) (x : DomainView) (class : ℕ) → CopyDrawMay k x class → (search_at x.own.looked class).pool < k.pools → ⊥
 no_pool_is_drawn_before_a_look k x class m left = let none = m.none_free in omega (arith, none, left)
 
 -- where a slice has scanned nothing, and looked at nothing in vain, it has taken no hint. The premise is `taken` of `CountsSlice`, which `slice` promises. A look takes its hint by value, so each hint that is taken is looked at

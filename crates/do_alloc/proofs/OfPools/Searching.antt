@@ -1,28 +1,28 @@
 -- Steps of a search one behind the other.
 use Rattle.model_core.specs.Domains.{class_count, reserve}
-use Rattle.std.proofs.Common.{◌≡◌, ◌≢◌, ◌∙◌, ℕ, ◌+◌, ◌-◌, ◌<◌, ◌≤◌, List, length, set, [], ◌∷◌, Some, None, Option, refl, ap, sym, subst, arith, lt_of_not-le, get_or-set_same}
+use Rattle.std.proofs.Common.{◌≡◌, ◌≢◌, ◌∙◌, ℕ, ◌+◌, ◌-◌, ◌<◌, ◌≤◌, List, length, set, [], ◌∷◌, Some, None, Option, true, refl, ap, sym, subst, arith, lt_of_not-le, get_or-set_same}
 use mathlib.Core.Logic.{dite}
 use native.Mathlib.Decide.{dec_le}
 use Rattle.heap_rule.specs.declared.view.DomainView.{DomainView}
 use Rattle.heap_rule.specs.declared.view.Hunt.{Hunt}
 use Rattle.heap_rule.specs.declared.view.Hunt.TheVariants.{Rests, Counts, Asks, Draws, Walks, Fills}
-use Rattle.heap_rule.specs.declared.view.Spot.{Spot}
+use Rattle.heap_rule.specs.declared.view.Search.{Search}
 use Rattle.heap_rule.specs.declared.config.Config.{Config}
 use Rattle.heap_rule.specs.Limits.{sizes_in}
-use Rattle.heap_rule.specs.Pools.{Takes, owned, owner_word, blocks_of, place_in, drawn_in, limit_of, spot_at, hunting, hunting_below, hunting_free}
+use Rattle.heap_rule.specs.Pools.{Takes, owned, owner_word, blocks_of, place_in, drawn_in, limit_of, first_search, place_of, search_at, hunting, hunting_below, hunting_free}
 use Rattle.step_pools.specs.Takes.{with_hunt, NoneFree, ListedTold, CursorTold, Drew, OwnerMay, OwnedTold, ListTold, OwnerTold, PlaceTold}
 use Rattle.heap_rule.proofs.Classes.{some_block}
-use Rattle.step_pools.specs.Writes.{pool_after}
-use Rattle.step_pools.proofs.Tops.{after_later}
+use Rattle.step_pools.specs.Writes.{pool_behind}
+use Rattle.step_pools.proofs.Tops.{behind_later}
 use Rattle.do_alloc.specs.Pools.Taken.{Hunted, HuntedBelow, HasDrawn, DrewPool, Unreserved, Took, Missed, WentOn}
 
 pub hunted_twice : (x y z : DomainView) (g h : Hunt) → Hunted x y g → Hunted y z h → Hunted x z h
 hunted_twice x y z g h a b = b ∙ ap (λ (v : DomainView). hunting_free v z.own.looked h z.seen.free) a
 
-pub hunted_free : (x y : DomainView) (looked : List Spot) (h : Hunt) (free : List ℕ) → y ≡ hunting_free x looked h free → Hunted x y h
+pub hunted_free : (x y : DomainView) (looked : List Search) (h : Hunt) (free : List ℕ) → y ≡ hunting_free x looked h free → Hunted x y h
 hunted_free x y looked h free e = e ∙ (λ i. hunting_free x (ap (λ (z : DomainView). z.own.looked) (sym e) i) h (ap (λ (z : DomainView). z.seen.free) (sym e) i))
 
-pub hunted_of : (x y : DomainView) (looked : List Spot) (h : Hunt) → y ≡ hunting x looked h → Hunted x y h
+pub hunted_of : (x y : DomainView) (looked : List Search) (h : Hunt) → y ≡ hunting x looked h → Hunted x y h
 hunted_of x y looked h e = hunted_free x y looked h x.seen.free e
 
 -- where the domain has as many pools as before, or more
@@ -32,7 +32,7 @@ below_of x y h e = e ∙ (λ i. hunting_below x (ap (λ (z : DomainView). z.own.
 pub below_after : (x y z : DomainView) (g h : Hunt) → Hunted x y g → HuntedBelow y z h → HuntedBelow x z h
 below_after x y z g h a b = b ∙ ap (λ (v : DomainView). hunting_below v z.own.swept.top z.own.looked h z.seen.free) a
 
-pub below_free : (x y : DomainView) (top : ℕ) (looked : List Spot) (h : Hunt) (free : List ℕ) → y ≡ hunting_below x top looked h free → HuntedBelow x y h
+pub below_free : (x y : DomainView) (top : ℕ) (looked : List Search) (h : Hunt) (free : List ℕ) → y ≡ hunting_below x top looked h free → HuntedBelow x y h
 below_free x y top looked h free e = e ∙ (λ i. hunting_below x (ap (λ (z : DomainView). z.own.swept.top) (sym e) i) (ap (λ (z : DomainView). z.own.looked) (sym e) i) h (ap (λ (z : DomainView). z.seen.free) (sym e) i))
 
 pub missed_of : (x y : DomainView) (h : Hunt) → Hunted x y h → drawn_in h ≡ None → Missed x y
@@ -42,18 +42,18 @@ pub missed_twice : (x y z : DomainView) → Missed x y → Missed y z → Missed
 missed_twice x y z a b = record { view = hunted_twice x y z y.seen.hunt z.seen.hunt a.view b.view; at_rest = b.at_rest }
 
 -- the place looked to after a step
-pub spot_of : (x y : DomainView) (class : ℕ) (spot : Spot) (h : Hunt) → class < class_count → length x.own.looked ≡ class_count → y ≡ hunting x (set x.own.looked class spot) h → spot_at y.own.looked class ≡ spot
-spot_of x y class spot h few wide e = ap (λ (z : DomainView). spot_at z.own.looked class) e ∙ get_or-set_same x.own.looked class spot (record { pool = 0; slot = 0 }) (omega arith)
+pub spot_of : (x y : DomainView) (class : ℕ) (spot : Search) (h : Hunt) → class < class_count → length x.own.looked ≡ class_count → y ≡ hunting x (set x.own.looked class spot) h → search_at y.own.looked class ≡ spot
+spot_of x y class spot h few wide e = ap (λ (z : DomainView). search_at z.own.looked class) e ∙ get_or-set_same x.own.looked class spot first_search (omega arith)
 
-module _ (x v y : DomainView) (pool class i found : ℕ) (few : class < class_count) (hunted : Hunted x v (Walks pool class)) (told : PlaceTold pool class i v found y) where
+module _ (k : Config) (x v y : DomainView) (pool class i found : ℕ) (inside : pool < k.pools) (few : class < class_count) (hunted : Hunted x v (Walks pool class)) (told : PlaceTold k pool class i v found y) where
   module _ (full : found ≢ 0) where
-    pub walked_more : i + 1 < blocks_of class → Hunted x y (Walks pool class) × (spot_at y.own.looked class ≡ record { pool = pool; slot = i + 1 })
-    walked_more b = let e = told.full full b in (hunted_twice x v y (Walks pool class) (Walks pool class) hunted (hunted_of v y _ (Walks pool class) e), spot_of v y class (record { pool = pool; slot = i + 1 }) (Walks pool class) few told.wide e)
+    pub walked_more : i + 1 < blocks_of class → Hunted x y (Walks pool class) × (place_of (search_at y.own.looked class) ≡ record { pool = pool; slot = i + 1 })
+    walked_more b = let e = told.full full b in (hunted_twice x v y (Walks pool class) (Walks pool class) hunted (hunted_of v y _ (Walks pool class) e), ap place_of (spot_of v y class (record { pool = pool; slot = i + 1; only = (search_at v.own.looked class).only }) (Walks pool class) few told.wide e))
 
-    pub walked_last : blocks_of class ≤ i + 1 → Hunted x y (Walks pool class) × (pool < (spot_at y.own.looked class).pool)
+    pub walked_last : blocks_of class ≤ i + 1 → Hunted x y (Walks pool class) × (pool < (search_at y.own.looked class).pool)
     walked_last b = let e = told.last full b in (
       hunted_twice x v y (Walks pool class) (Walks pool class) hunted (hunted_of v y _ (Walks pool class) e),
-      subst (λ (s : Spot). pool < s.pool) (sym (spot_of v y class (record { pool = pool + 1; slot = 0 }) (Walks pool class) few told.wide e)) (omega arith),
+      subst (λ (s : Search). pool < s.pool) (sym (spot_of v y class (pool_behind k.pools v.own.swept.top pool (search_at v.own.looked class)) (Walks pool class) few told.wide e)) (behind_later k.pools v.own.swept.top pool (search_at v.own.looked class) inside),
     )
 
     pub walked_free : y.seen.free ≡ v.seen.free
@@ -61,15 +61,15 @@ module _ (x v y : DomainView) (pool class i found : ℕ) (few : class < class_co
         (λ last. ap (λ (z : DomainView). z.seen.free) (told.last full last))
         (λ not_last. ap (λ (z : DomainView). z.seen.free) (told.full full (lt_of_not-le not_last)))
 
-  pub walked_took : (k : Config) (a : ℕ) → pool < k.pools → i < blocks_of class → a ≡ place_in pool class i → spot_at v.own.looked class ≡ record { pool = pool; slot = i } → found ≡ 0 → Took k class a x y
-  walked_took k a inside below is next free = record { pool = pool; slot = i; inside = inside; below = below; address = is; next = ap (λ (z : DomainView). spot_at z.own.looked class) (told.free free) ∙ next; view = below_of x y (Fills pool class i _) (hunted_twice x v y (Walks pool class) (Fills pool class i _) hunted (hunted_of v y _ (Fills pool class i _) (told.free free))) }
+  pub walked_took : (a : ℕ) → i < blocks_of class → a ≡ place_in pool class i → place_of (search_at v.own.looked class) ≡ record { pool = pool; slot = i } → found ≡ 0 → Took k class a x y
+  walked_took a below is next free = record { pool = pool; slot = i; inside = inside; below = below; address = is; next = ap (λ (z : DomainView). place_of (search_at z.own.looked class)) (told.free free) ∙ next; view = below_of x y (Fills pool class i _) (hunted_twice x v y (Walks pool class) (Fills pool class i _) hunted (hunted_of v y _ (Fills pool class i _) (told.free free))) }
 
 -- a pool that isn't the domain's
 pub passes : (k : Config) (x y : DomainView) (pool class found : ℕ) → pool < k.pools → class < class_count → OwnerTold k pool class x found y → found ≢ owner_word (owned x.own.number class) → WentOn class pool x y
 passes k x y pool class found inside few told other =
     let e = told.other other in record {
       missed = missed_of x y Rests (hunted_of x y _ Rests e) refl;
-      later = subst (λ (s : Spot). pool < s.pool) (sym (spot_of x y class (record { pool = pool_after k.pools x.own.swept.top pool; slot = 0 }) Rests few told.wide e)) (after_later k.pools x.own.swept.top pool inside);
+      later = subst (λ (s : Search). pool < s.pool) (sym (spot_of x y class (pool_behind k.pools x.own.swept.top pool (search_at x.own.looked class)) Rests few told.wide e)) (behind_later k.pools x.own.swept.top pool (search_at x.own.looked class) inside);
     }
 
 -- after a look at a pool
@@ -107,7 +107,7 @@ drew_drawn k place class x y d = record { pool = d.pool; listed_is = d.listed_is
 
 -- and no place of an own pool is free still
 pub none_still : (k : Config) (class : ℕ) (x y : DomainView) → y.own.looked ≡ x.own.looked → NoneFree k x class → NoneFree k y class
-none_still k class x y same none = subst (λ (l : List Spot). k.pools ≤ (spot_at l class).pool) (sym same) none
+none_still k class x y same none = subst (λ (l : List Search). k.pools ≤ (search_at l class).pool) (sym same) none
 
 -- after another step
 pub took_later : (k : Config) (class a : ℕ) (x v y : DomainView) (h : Hunt) → Hunted x v h → Took k class a v y → Took k class a x y
@@ -153,7 +153,7 @@ module _ (k : Config) (x v2 : DomainView) (place class found : ℕ) (d : HasDraw
         below = (some_block class few).0;
         address = is;
         view = below_after x v3 v4 (Draws place found class (blocks_of class)) (Fills found class 0 []) (hunted_of x v3 _ (Draws place found class (blocks_of class)) all_view) (below_free v3 v4 _ _ (Fills found class 0 []) _ signed.view);
-        next = ap (λ (z : DomainView). spot_at z.own.looked class) signed.view ∙ get_or-set_same v3.own.looked class (record { pool = found; slot = 0 }) (record { pool = 0; slot = 0 }) (let n : ℕ = length v3.own.looked in let w : n ≡ class_count = signed.wide in omega arith);
+        next = ap (λ (z : DomainView). place_of (search_at z.own.looked class)) signed.view ∙ ap place_of (get_or-set_same v3.own.looked class (record { pool = found; slot = 0; only = true }) first_search (let n : ℕ = length v3.own.looked in let w : n ≡ class_count = signed.wide in omega arith));
       }
 
       pub drawn_free : v4.seen.free ≡ x.seen.free

@@ -15,7 +15,7 @@ use Rattle.heap_rule.specs.declared.view.Hunt.{Hunt}
 use Rattle.heap_rule.specs.declared.view.Hunt.TheVariants.{Rests, Draws, Fills}
 use Rattle.heap_rule.specs.declared.view.Spare.{Spare}
 use Rattle.heap_rule.specs.declared.view.Spot.{Spot}
-use Rattle.heap_rule.specs.Pools.{size_of, blocks_of, place_in, spot_at, hunting_below, hunting_free}
+use Rattle.heap_rule.specs.Pools.{size_of, blocks_of, place_in, place_of, search_at, hunting_below, hunting_free}
 use Rattle.heap_rule.specs.Token.{Token, SharedHeap, IsIn}
 use Rattle.heap_rule.specs.Running.{Did, RemembersAll}
 use Rattle.heap_rule.specs.Standing.{Acts}
@@ -53,7 +53,7 @@ pub record Unreserved (k : Config) (x y : DomainView) : Type 0 where
 
 -- the own pools of the class hadn't all been looked through, and it was not looked at how many pools are free
 pub record FoundOwn (k : Config) (class : ℕ) (x y : DomainView) : Type 0 where
-  pub left : (spot_at x.own.looked class).pool < k.pools
+  pub left : (search_at x.own.looked class).pool < k.pools
   pub unseen : y.seen.free ≡ x.seen.free
 
 -- no place of an own pool of the class was known to be free, no more pools were found free than the reserve, own pools were left to be swept, and after all of these were swept a place was found
@@ -154,7 +154,7 @@ pub record Took (k : Config) (class a : ℕ) (x y : DomainView) : Type 0 where
   pub below : slot < blocks_of class
   pub address : a ≡ place_in pool class slot
   pub view : HuntedBelow x y (Fills pool class slot [])
-  pub next : spot_at y.own.looked class ≡ record { pool = pool; slot = slot }
+  pub next : place_of (search_at y.own.looked class) ≡ record { pool = pool; slot = slot }
 
 -- the same, and own pools may have been swept first
 pub record Taken (k : Config) (class a : ℕ) (x y : DomainView) : Type 0 where
@@ -164,7 +164,7 @@ pub record Taken (k : Config) (class a : ℕ) (x y : DomainView) : Type 0 where
   pub below : slot < blocks_of class
   pub address : a ≡ place_in pool class slot
   pub view : SoughtBelow k x y (Fills pool class slot [])
-  pub next : spot_at y.own.looked class ≡ record { pool = pool; slot = slot }
+  pub next : place_of (search_at y.own.looked class) ≡ record { pool = pool; slot = slot }
 
 -- the free place at an address is taken without a look at how many pools are free
 pub record TookUnseen (k : Config) (class a : ℕ) (x y : DomainView) : Type 0 where
@@ -179,7 +179,7 @@ pub record Missed (x y : DomainView) : Type 0 where
 -- the search went on to a later pool
 pub record WentOn (class pool : ℕ) (x y : DomainView) : Type 0 where
   pub missed : Missed x y
-  pub later : pool < (spot_at y.own.looked class).pool
+  pub later : pool < (search_at y.own.looked class).pool
 
 -- no place of an own pool of the class is free
 pub record Lacks (k : Config) (class : ℕ) (x y : DomainView) : Type 0 where

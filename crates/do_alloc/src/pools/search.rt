@@ -2,12 +2,12 @@
 ghost use Rattle.model_core.specs.Domains.{class_count};
 ghost use Rattle.std.specs.Prelude.{◌≡◌, ◌+◌, ◌<◌, MatchOption, OnSome};
 ghost use Rattle.heap_rule.specs.declared.view.Hunt.TheVariants.{Walks};
-ghost use Rattle.heap_rule.specs.Pools.{Takes, blocks_of, spot_at};
+ghost use Rattle.heap_rule.specs.Pools.{Takes, blocks_of, place_of, search_at};
 ghost use Rattle.step_pools.specs.Takes.{HasNoDraw};
 ghost use Rattle.heap_rule.specs.Token.{IsIn};
 ghost use Rattle.do_alloc.specs.Pools.Taken.{FoundOwn, Took, WentOn, Lacks};
 
-use heap_rule::{Domain, Heap, Spot};
+use heap_rule::{Domain, Heap, Search};
 use step_pools::{class_blocks, owner_load, owner_word, place_address, place_load};
 
 // The index of the owner word of the first pool, less the number of pools.
@@ -19,7 +19,7 @@ fn walk(heap: &Heap, dom: &mut Domain, class: u32, pool: u32, slot: u32) -> Opti
     requires class { class < class_count }
     requires inside { (pool < heap.now.config.pools) × (slot < blocks_of class) }
     requires walks { dom.old.view.seen.hunt ≡ Walks pool class }
-    requires next { spot_at dom.old.view.own.looked class ≡ record { pool = pool; slot = slot } }
+    requires next { place_of (search_at dom.old.view.own.looked class) ≡ record { pool = pool; slot = slot } }
     requires takes { Takes dom.old.view.seen.stage }
     ensures here { IsIn dom.new heap.now }
     ensures found { MatchOption result (WentOn class pool dom.old.view dom.new.view) (λ a. Took heap.now.config class a dom.old.view dom.new.view) }
@@ -41,7 +41,7 @@ fn look_in(heap: &Heap, dom: &mut Domain, class: u32, pool: u32, slot: u32) -> O
     requires class { class < class_count }
     requires inside { (pool < heap.now.config.pools) × (slot < blocks_of class) }
     requires at_rest { HasNoDraw dom.old.view }
-    requires next { spot_at dom.old.view.own.looked class ≡ record { pool = pool; slot = slot } }
+    requires next { place_of (search_at dom.old.view.own.looked class) ≡ record { pool = pool; slot = slot } }
     requires takes { Takes dom.old.view.seen.stage }
     ensures here { IsIn dom.new heap.now }
     ensures found { MatchOption result (WentOn class pool dom.old.view dom.new.view) (λ a. Took heap.now.config class a dom.old.view dom.new.view) }
@@ -69,7 +69,7 @@ pub(crate) fn find_free(heap: &Heap, dom: &mut Domain, class: u32) -> Option<u32
 {
     let pools = heap.config().pools;
     for _passed in 0..pools {
-        let Spot { pool, slot } = dom.looked(class);
+        let Search { pool, slot, .. } = dom.looked(class);
         if pool >= pools {
             return None;
         }

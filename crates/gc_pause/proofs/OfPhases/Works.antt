@@ -14,11 +14,11 @@ use Rattle.heap_rule.specs.declared.view.DomainView.{DomainView}
 use Rattle.heap_rule.specs.declared.view.Finalisers.{Finalisers}
 use Rattle.heap_rule.specs.declared.view.Listing.{Listing}
 use Rattle.heap_rule.specs.declared.view.Share.{Share}
-use Rattle.heap_rule.specs.declared.view.Spot.{Spot}
+use Rattle.heap_rule.specs.declared.view.Search.{Search}
 use Rattle.heap_rule.specs.declared.view.Swept.{Swept}
 use Rattle.heap_rule.specs.Finalisers.{RefersOld}
 use Rattle.heap_rule.specs.Limits.{sizes_in}
-use Rattle.heap_rule.specs.Pools.{spot_at}
+use Rattle.heap_rule.specs.Pools.{place_of, search_at}
 use Rattle.heap_rule.specs.Sweeping.{nothing_swept}
 use Rattle.heap_rule.proofs.Closes.{front_same}
 use Rattle.step_sweep.specs.Freeing.{AnewTold, IsNoLater, unswept}
@@ -33,14 +33,14 @@ use Rattle.gc_pause.specs.Phases.Sharing.{Decided, LastsDecided, SharesIn, Works
 use Rattle.gc_pause.proofs.OfPhases.Sorted.{Sorted, sorted_finals, sorted_lasts}
 
 -- the domain with these parts
-abbrev built : DomainView → List Spot → Bounded ℕ → Swept → Finalisers → List Entry → Option Listing → Share → DomainView
+abbrev built : DomainView → List Search → Bounded ℕ → Swept → Finalisers → List Entry → Option Listing → Share → DomainView
 built x looked ephemerons swept finalisers front listing share = record { own = record x.own { looked = looked; ephemerons = ephemerons; swept = swept; finalisers = finalisers }; seen = record x.seen { front = front; listing = listing; share = share } }
 
 -- where the places looked at are the same, so is where the next search begins
 again_same : (x y : DomainView) → y.own.looked ≡ x.own.looked → LooksAgain x y
-again_same x y same class = inr (ap (λ (l : List Spot). (spot_at l class).pool) same, (let e : (spot_at y.own.looked class).slot ≡ (spot_at x.own.looked class).slot = ap (λ (l : List Spot). (spot_at l class).slot) same in omega arith))
+again_same x y same class = inr (ap (λ (l : List Search). (search_at l class).pool) same, (let e : (search_at y.own.looked class).slot ≡ (search_at x.own.looked class).slot = ap (λ (l : List Search). (search_at l class).slot) same in omega arith))
 
-built_as : (x y : DomainView) (looked : List Spot) (ephemerons : Bounded ℕ) (swept : Swept) (finalisers : Finalisers) (front : List Entry) (listing : Option Listing) (share : Share) → y ≡ built x looked ephemerons swept finalisers front listing share → y ≡ with_work x y
+built_as : (x y : DomainView) (looked : List Search) (ephemerons : Bounded ℕ) (swept : Swept) (finalisers : Finalisers) (front : List Entry) (listing : Option Listing) (share : Share) → y ≡ built x looked ephemerons swept finalisers front listing share → y ≡ with_work x y
 built_as x y looked ephemerons swept finalisers front listing share is = is
     ∙ λ i. built x (sym (ap (λ (z : DomainView). z.own.looked) is) i) (sym (ap (λ (z : DomainView). z.own.ephemerons) is) i) (sym (ap (λ (z : DomainView). z.own.swept) is) i) (sym (ap (λ (z : DomainView). z.own.finalisers) is) i) (sym (ap (λ (z : DomainView). z.seen.front) is) i) (sym (ap (λ (z : DomainView). z.seen.listing) is) i) (sym (ap (λ (z : DomainView). z.seen.share) is) i)
 
@@ -121,7 +121,7 @@ sweep_works k x v w y stage s counted looks held =
       unmarked_is = ap (λ (z : DomainView). z.seen.share.unmarked) path;
       weak_is = ap (λ (z : DomainView). z.seen.share.weak) path;
       looked = λ other. absurd (other refl);
-      again = subst (λ (l : List Spot). (class : ℕ) → IsNoLater (spot_at l class) (spot_at x.own.looked class)) (sym looked) s.looked;
+      again = subst (λ (l : List Search). (class : ℕ) → IsNoLater (place_of (search_at l class)) (place_of (search_at x.own.looked class))) (sym looked) s.looked;
       listed = λ other. absurd (other refl);
       room = subst (λ (l : Bounded ℕ). x.own.ephemerons.room ≤ l.room) (sym listed) s.shortens.no_less;
       swept = λ _ other. absurd (other refl);
@@ -149,7 +149,7 @@ shares_in k kind x y z w is =
     let front : y.seen.front ≡ z.seen.front = sym (ap (λ (v : DomainView). v.seen.front) is) in record {
       view = is ∙ (ap arrived_view w.view ∙ λ i. arrived_view (built x (looked i) (ephemerons i) (swept i) (finalisers i) (front i) None (record x.seen.share { progress = w.progress_is i; unmarked = w.unmarked_is i })));
       looked = λ other. sym looked ∙ w.looked other;
-      again = λ class. subst (λ (l : List Spot). IsNoLater (spot_at l class) (spot_at x.own.looked class)) looked (w.again class);
+      again = λ class. subst (λ (l : List Search). IsNoLater (place_of (search_at l class)) (place_of (search_at x.own.looked class))) looked (w.again class);
       listed = λ other. sym ephemerons ∙ w.listed other;
       room = subst (λ (l : Bounded ℕ). x.own.ephemerons.room ≤ l.room) ephemerons w.room;
       swept = λ unsettled unswept. sym swept ∙ w.swept unsettled unswept;
