@@ -9,7 +9,6 @@ use Rattle.heap_rule.specs.declared.view.Finalisers.{Finalisers}
 use Rattle.heap_rule.specs.declared.view.Own.{Own}
 use Rattle.heap_rule.specs.declared.view.Search.{Search}
 use Rattle.heap_rule.specs.declared.view.Swept.{Swept}
-use Rattle.heap_rule.specs.declared.view.TheConstants.{REMEMBERED_ROOM}
 use Rattle.heap_rule.specs.Finalisers.{FinalisersFit}
 use Rattle.heap_rule.specs.Views.{pending_room}
 use Rattle.heap_rule.specs.Token.{AllInHeap, Holds, LooksWithin, OwnFits, SweptWithin}
@@ -46,7 +45,7 @@ module _ (k : Config) (own : Own) where
   swept_fits ephemerons swept listed within fits = fits_with own.looked own.prepared own.pending ephemerons swept fits.looked fits.prepared fits.pending listed within fits
 
   -- with other registers, lists of finalisers and remembered fields, and where it has made blocks
-  pub fits_held : (used serial : ℕ) (registers : List Value) (remembered : Bounded ℕ) (fs : Finalisers) → used ≤ k.minor_words → Holds k registers → AllInHeap k remembered.items → remembered.room + length remembered.items ≡ REMEMBERED_ROOM → FinalisersFit k fs → OwnFits k own
+  pub fits_held : (used serial : ℕ) (registers : List Value) (remembered : Bounded ℕ) (fs : Finalisers) → used ≤ k.minor_words → Holds k registers → AllInHeap k remembered.items → remembered.room + length remembered.items ≡ k.minor_words → FinalisersFit k fs → OwnFits k own
       → OwnFits k (record own { used = used; serial = serial; registers = registers; remembered = remembered; finalisers = fs })
   fits_held used serial registers remembered fs room holds inside few lists fits = record {
     number = fits.number;

@@ -93,7 +93,7 @@ first_seat k n own me is e limits inside = subst (λ (m : Own × Me (Unit {0}) V
     registers = record { wide = refl; packable = λ r few. first_packable r; inside = λ r a few is. first_inside k limits r a is };
     looked = looks_first k;
     remembered = λ i a e. absurd (no_item [] i a refl e);
-    remembered_room = refl;
+    remembered_room = (let n : ℕ = k.minor_words in let g : n + 0 ≡ n = omega arith in g);
     prepared = refl;
     pending = omega arith;
     ephemerons = λ i a e. absurd (no_item [] i a refl e);

@@ -12,7 +12,6 @@ use Rattle.heap_rule.specs.declared.view.Own.{Own}
 use Rattle.heap_rule.specs.declared.view.Search.{Search}
 use Rattle.heap_rule.specs.declared.view.Swept.{Swept}
 use Rattle.heap_rule.specs.declared.view.View.{View}
-use Rattle.heap_rule.specs.declared.view.TheConstants.{REMEMBERED_ROOM}
 use Rattle.heap_rule.specs.Pools.{blocks_of, search_at}
 use Rattle.model_core.specs.Domains.{class_count, IsWithinLimits}
 use Rattle.heap_rule.specs.Limits.{sizes_in}
@@ -73,7 +72,7 @@ pub record OwnFits (k : Config) (own : Own) : Type 0 where
   pub registers : Holds k own.registers
   pub looked : LooksWithin k own.looked
   pub remembered : AllInHeap k own.remembered.items
-  pub remembered_room : own.remembered.room + length own.remembered.items ≡ REMEMBERED_ROOM
+  pub remembered_room : own.remembered.room + length own.remembered.items ≡ k.minor_words
   pub prepared : length own.prepared ≡ class_count
   pub pending : own.pending.room + length own.pending.items ≡ pending_room k
   pub ephemerons : AllInHeap k own.ephemerons.items

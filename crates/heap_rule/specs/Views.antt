@@ -8,7 +8,6 @@ use Rattle.model_core.specs.declared.entry.Entry.{Entry}
 use Rattle.model_core.specs.History.{IsPrefix}
 use Rattle.model_core.specs.Fronts.{AreNotControls, IsFrontOf, unseen}
 use Rattle.heap_words.specs.declared.value.Value.TheVariants.{Ref, Nothing}
-use Rattle.heap_rule.specs.declared.view.TheConstants.{REMEMBERED_ROOM}
 use Rattle.heap_rule.specs.declared.config.Config.{Config}
 use Rattle.heap_rule.specs.declared.view.DomainView.{DomainView}
 use Rattle.heap_rule.specs.declared.view.Finalisers.{Finalisers}
@@ -99,7 +98,7 @@ opening_view k d = record {
     serial = 0;
     arrivals = 0;
     looked = replicate class_count first_search;
-    remembered = record { items = []; room = REMEMBERED_ROOM };
+    remembered = record { items = []; room = k.minor_words };
     prepared = replicate class_count None;
     pending = record { items = []; room = pending_room k };
     ephemerons = record { items = []; room = k.ephes };

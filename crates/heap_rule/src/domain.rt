@@ -4,7 +4,6 @@ ghost use Rattle.model_core.specs.Domains.{class_count, IsWithinLimits};
 ghost use Rattle.heap_words.specs.declared.value.Value.TheVariants.{Ref};
 ghost use Rattle.heap_words.specs.Values.{IsPackable};
 ghost use Rattle.heap_rule.specs.Changes.{value_at};
-ghost use Rattle.heap_rule.specs.declared.view.TheConstants.{REMEMBERED_ROOM};
 ghost use Rattle.heap_rule.specs.Items.{items_of};
 ghost use Rattle.heap_rule.specs.Limits.{sizes_in};
 ghost use Rattle.heap_rule.specs.Opening.{opening_token};
@@ -16,7 +15,7 @@ ghost use Rattle.heap_rule.specs.Views.{one, opening_view, pending_room};
 use crate::change::{Item, Part};
 use crate::config::Config;
 use crate::view::{
-    Copied, Finalisers, Own, REMEMBERED_ROOM, Registered, RegisteredLast, Search, Spot, Swept, View,
+    Copied, Finalisers, Own, Registered, RegisteredLast, Search, Spot, Swept, View,
     Waiting,
 };
 use atomic_table::Seat;
@@ -62,7 +61,7 @@ impl Domain {
     {
         let mut registers = [Value::Nothing; 16];
         registers[0] = Value::Ref(1);
-        let remembered = Remembered::make(alloc, REMEMBERED_ROOM)?;
+        let remembered = Remembered::make(alloc, config.minor_words as usize)?;
         let area_words = config.domains as usize * config.minor_words as usize;
         let pending = BoundedList::make(alloc, area_words / 4)?;
         let ephemerons = BoundedList::make(alloc, config.ephes as usize)?;
@@ -163,10 +162,10 @@ impl Domain {
     }
 
     /// How many fields the domain remembers, in the order in which they were remembered. With those that it can remember still
-    /// they are always as many.
+    /// they are as many as its minor area has words.
     pub fn remembered_len(&self) -> usize
         ensures value { result ≡ length self.now.view.own.remembered.items }
-        ensures whole { let list = self.now.view.own.remembered in list.room + length list.items ≡ REMEMBERED_ROOM }
+        ensures whole { let list = self.now.view.own.remembered in list.room + length list.items ≡ self.now.config.minor_words }
     {
         self.own.remembered.len()
     }

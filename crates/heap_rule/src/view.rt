@@ -133,9 +133,6 @@ pub struct Listing {
     pub listed: u64,
 }
 
-/// How many fields a domain can remember between two collections of its minor area.
-pub const REMEMBERED_ROOM: usize = 4096;
-
 /// What a domain's token holds.
 #[derive(Drop)]
 pub struct Own {
@@ -150,7 +147,7 @@ pub struct Own {
     /// For each size class, how far a free place of it was looked for.
     pub looked: [Search; CLASS_COUNT],
     /// The fields of blocks in pools into which the domain stored addresses of minor areas since its
-    /// last collection.
+    /// last collection. There is room for as many as a minor area has words.
     pub remembered: Remembered,
     /// For each size class, the place of an own pool that is prepared for a copy.
     pub prepared: [Option<u32>; CLASS_COUNT],

@@ -11,7 +11,6 @@ use Rattle.heap_rule.specs.declared.view.Hunt.TheVariants.{Rests as AtRest}
 use Rattle.heap_rule.specs.declared.view.Own.{Own}
 use Rattle.heap_rule.specs.declared.view.Finalisers.{Finalisers}
 use Rattle.heap_rule.specs.declared.view.Waiting.{Waiting}
-use Rattle.heap_rule.specs.declared.view.TheConstants.{REMEMBERED_ROOM}
 use Rattle.heap_rule.specs.Limits.{sizes_in}
 use Rattle.heap_rule.specs.Places.{class_words}
 use Rattle.heap_rule.specs.Standing.{with_front}
@@ -217,9 +216,9 @@ unfolding class_words
 class_small words = grind (arith, nat_tests)
 
 -- a command needs no pause where the minor area is empty, the domain remembers nothing, and a pause has come for it, unless it is a `full_major`
-module _ (k : Config) (own : Own) (limits : IsWithinLimits (sizes_in k)) (used : own.used ≡ 0) (items : own.remembered.items ≡ []) (whole : own.remembered.room + length own.remembered.items ≡ REMEMBERED_ROOM) where
-  room : own.remembered.room ≡ 4096
-  room = let none : length own.remembered.items ≡ 0 = ap length items in omega (arith, whole, none)
+module _ (k : Config) (own : Own) (limits : IsWithinLimits (sizes_in k)) (used : own.used ≡ 0) (items : own.remembered.items ≡ []) (whole : own.remembered.room + length own.remembered.items ≡ k.minor_words) where
+  room : 1 ≤ own.remembered.room
+  room = let none : length own.remembered.items ≡ 0 = ap length items in let many = limits.some_minor in omega (arith, whole, none, many)
 
   fits : (fields : ℕ) → k.minor_words < own.used + class_words (fields + 2) → ⊥
   fits fields more = let few = class_small (fields + 2) in let many = limits.some_minor in omega (arith, more, few, many, used)
@@ -256,7 +255,7 @@ module _ (h : SharedHeap) (start r s : RunView) (a : Turned) (l : IsLone h r) (t
     by (Made k) = absurd (let more = k.2 in let was = t.next in omega (arith, more, was, next))
 
   -- and else the tries are over
-  pub tries_on : Telling h start r → IsWithinLimits (sizes_in h.config) → (r.token.view.own.remembered.room + length r.token.view.own.remembered.items ≡ REMEMBERED_ROOM) → ((s.next ≡ start.next) → Wants s) → TriesOn h start s
+  pub tries_on : Telling h start r → IsWithinLimits (sizes_in h.config) → (r.token.view.own.remembered.room + length r.token.view.own.remembered.items ≡ h.config.minor_words) → ((s.next ≡ start.next) → Wants s) → TriesOn h start s
   tries_on told limits whole over = record {
     lone = lone_calm h r s a l t.left some here is says;
     left = left_of step;

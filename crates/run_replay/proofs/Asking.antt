@@ -10,7 +10,6 @@ use Rattle.heap_rule.specs.declared.phase.Kind.{Kind}
 use Rattle.heap_rule.specs.declared.view.DomainView.{DomainView}
 use Rattle.heap_rule.specs.declared.view.Hunt.TheVariants.{Rests as AtRest}
 use Rattle.heap_rule.specs.declared.view.Own.{Own}
-use Rattle.heap_rule.specs.declared.view.TheConstants.{REMEMBERED_ROOM}
 use Rattle.heap_rule.specs.Limits.{sizes_in}
 use Rattle.heap_rule.specs.Places.{class_words}
 use Rattle.heap_rule.specs.Standing.{with_front}
@@ -161,9 +160,9 @@ unfolding class_words
 class_small words = grind (arith, nat_tests)
 
 -- a command needs no pause where the minor area is empty, a domain remembers nothing, and a pause has come for it, unless it is a `full_major`
-module _ (k : Config) (own : Own) (limits : IsWithinLimits (sizes_in k)) (used : own.used ≡ 0) (items : own.remembered.items ≡ []) (whole : own.remembered.room + length own.remembered.items ≡ REMEMBERED_ROOM) where
-  room : own.remembered.room ≡ 4096
-  room = let none : length own.remembered.items ≡ 0 = ap length items in omega (arith, whole, none)
+module _ (k : Config) (own : Own) (limits : IsWithinLimits (sizes_in k)) (used : own.used ≡ 0) (items : own.remembered.items ≡ []) (whole : own.remembered.room + length own.remembered.items ≡ k.minor_words) where
+  room : 1 ≤ own.remembered.room
+  room = let none : length own.remembered.items ≡ 0 = ap length items in let many = limits.some_minor in omega (arith, whole, none, many)
 
   fits : (fields : ℕ) → k.minor_words < own.used + class_words (fields + 2) → ⊥
   fits fields more = let few = class_small (fields + 2) in let many = limits.some_minor in omega (arith, more, few, many, used)
@@ -184,7 +183,7 @@ module _ (k : Config) (own : Own) (limits : IsWithinLimits (sizes_in k)) (used :
 
 -- once a pause has come for it a command asks for none but a complete collection, unless an allocation is refused
 module _ (h : SharedHeap) (r s : RunView) (limits : IsWithinLimits (sizes_in h.config)) (is : IsRun r) (listed : r.supply ≡ Listed) (left : r.left ≡ None) (goes_on : r.ended ≡ false) (asks : AsksOnce r)
-    (whole : r.token.view.own.remembered.room + length r.token.view.own.remembered.items ≡ REMEMBERED_ROOM) (served : served_since r.asked r.token.view.own.arrivals ≡ true) (came : CameTo h.config s r.next (length r.replies) (Needs false)) (never : AsksFull h r.token r s → ⊥) where
+    (whole : r.token.view.own.remembered.room + length r.token.view.own.remembered.items ≡ h.config.minor_words) (served : served_since r.asked r.token.view.own.arrivals ≡ true) (came : CameTo h.config s r.next (length r.replies) (Needs false)) (never : AsksFull h r.token r s → ⊥) where
   other_supply : r.supply ≡ Section → ⊥
   other_supply section = let e : Listed ≡ Section = sym listed ∙ section in cc
 

@@ -1,5 +1,5 @@
-use Rattle.std.proofs.Common.{◌≡◌, ◌+◌, length, arith, subst}
-use Rattle.heap_rule.specs.declared.view.TheConstants.{REMEMBERED_ROOM}
+use Rattle.std.proofs.Common.{◌≡◌, ◌+◌, ◌∙◌, ap, length, arith, subst}
+use Rattle.heap_rule.specs.declared.config.Config.{Config}
 use Rattle.heap_rule.specs.Token.{Token}
 use Rattle.run_alone.proofs.Keeping.{lone_calm, some_as, stands_on, told_on, tries_on}
 use Rattle.run_alone.proofs.trying.try_on.Goals as goal
@@ -8,7 +8,7 @@ pub returns-then-next : goal.returns-then-next
 returns-then-next c =
     let i = c.tries.invariant in record {
       tries = tries_on c.args.heap.now c.args.run.now c.tries.run c.go_on.new.run c.go_on.result i.0 i.1 (some_as c.args.run.now c.tries.run i.1 c.requires.some) c.go_on.ensures.here c.shows_faithful.ensures c.go_on.ensures.answer i.2 c.config-limits.ensures.limits
-          (subst (λ (t : Token). t.view.own.remembered.room + length t.view.own.remembered.items ≡ REMEMBERED_ROOM) c.domain.ensures c.remembered_len-remembered.ensures.whole)
+          (subst (λ (t : Token). t.view.own.remembered.room + length t.view.own.remembered.items ≡ t.config.minor_words) c.domain.ensures c.remembered_len-remembered.ensures.whole ∙ ap (λ (k : Config). k.minor_words) i.0.here.1)
           (λ same. let other = c.if-next.true in let now = c.next.ensures.next in let was = c.next-next.ensures.next in absurd (omega (arith, other, now, was, same)));
     }
 
@@ -16,7 +16,7 @@ pub returns-then-wants : goal.returns-then-wants
 returns-then-wants c =
     let i = c.tries.invariant in record {
       tries = tries_on c.args.heap.now c.args.run.now c.tries.run c.go_on.new.run c.go_on.result i.0 i.1 (some_as c.args.run.now c.tries.run i.1 c.requires.some) c.go_on.ensures.here c.shows_faithful.ensures c.go_on.ensures.answer i.2 c.config-limits.ensures.limits
-          (subst (λ (t : Token). t.view.own.remembered.room + length t.view.own.remembered.items ≡ REMEMBERED_ROOM) c.domain.ensures c.remembered_len-remembered.ensures.whole)
+          (subst (λ (t : Token). t.view.own.remembered.room + length t.view.own.remembered.items ≡ t.config.minor_words) c.domain.ensures c.remembered_len-remembered.ensures.whole ∙ ap (λ (k : Config). k.minor_words) i.0.here.1)
           (λ same. c.wants.ensures.yes c.if-wants.true);
     }
 

@@ -1,7 +1,7 @@
 use Rattle.std.proofs.Common.{◌≡◌, ◌∙◌, ◌+◌, ◌<◌, false, List, Option, ap, arith, length, length-set, refl, subst, sym, Some, ℕ}
 use Rattle.std.specs.Prelude.{slice_set, vec_capacity}
 use Rattle.run_turns.specs.declared.supply.Supply.TheVariants.{Listed, Section}
-use Rattle.heap_rule.specs.declared.view.TheConstants.{REMEMBERED_ROOM}
+use Rattle.heap_rule.specs.declared.config.Config.{Config}
 use Rattle.heap_rule.specs.Token.{SharedHeap, Token, IsIn}
 use Rattle.run_turns.specs.Runs.{CalmAnswers, IsRun, RunView}
 use Rattle.text_script.specs.declared.schedule.drive.together.Stepped.{Stepped}
@@ -59,7 +59,7 @@ unreachable-requires-then-asks_again c =
     let is : IsRun made = subst IsRun same c.shows_faithful.ensures in
     let came : CameTo h.config made r.next (length r.replies) (Needs false) = subst (λ (w : (RunView × Stepped) × (ℕ × ℕ)). CameTo h.config w.0.0 w.1.0 w.1.1 w.0.1) (λ i. ((same i, again.1 i), (c.next-next.ensures.next i, length (c.replies-count.ensures.replies i)))) c.came_to-stepped.ensures.came in
     asks_no_more h r made c.config-limits.ensures.limits (c.requires.here.are at r there) (c.requires.few.listed at r there) (c.requires.running r there) (c.requires.goes_on r there) (c.requires.few.asks at r there)
-    (subst (λ (t : Token). t.view.own.remembered.room + length t.view.own.remembered.items ≡ REMEMBERED_ROOM) c.domain.ensures c.remembered_len-remembered.ensures.whole)
+    (subst (λ (t : Token). t.view.own.remembered.room + length t.view.own.remembered.items ≡ t.config.minor_words) c.domain.ensures c.remembered_len-remembered.ensures.whole ∙ ap (λ (k : Config). k.minor_words) (c.requires.here.here at r there).1)
     (sym c.has_paused-paused.ensures ∙ again.0) came
     (never_refused h c.args.runs.now at r made c.requires.here c.requires.few there is
     (λ d q away was. level_shared set c.meet.new.runs level d at q made (set_else c.args.runs.now at d (Some made) away ∙ was) mine))
