@@ -132,7 +132,7 @@ module _ (k : Config) (s : Words) (r : Rule k s) (id : ℕ) (hist : List Entry) 
       let full : k.pools ≤ (search_at x.own.looked z.class).pool = none in
       let w : ℕ = (search_at x.own.looked z.class).pool in
       let before : z.pool < w = omega arith in
-      hunter.taken z.pool z.class z.slot f.own_is f.inside (inl before) f.free
+      hunter.taken z.pool z.class z.slot f.own_is f.inside (inl (inl before)) f.free
 
   -- where it doesn't run, it knows nothing of how many pools are free
   pub known_free : x.seen.stage ≢ In Run → x.seen.free ≡ []

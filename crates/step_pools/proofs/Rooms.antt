@@ -41,7 +41,7 @@ used_up k t words x class p h few free none_free unprepared =
     let below : q < k.pools = (p.owned_by q x.own.number class l.own_is).0 in
     let seen : q < (search_at x.own.looked class).pool = (let w : ℕ = (search_at x.own.looked class).pool in let f : k.pools ≤ w = none_free in let o : q < w = omega arith in o) in
     absurd (⊎_elim
-    (λ (z : at_address k words (place_in q class u) ≡ 0). h.taken q class u l.own_is inside (inl seen) z)
+    (λ (z : at_address k words (place_in q class u) ≡ 0). h.taken q class u l.own_is inside (inl (inl seen)) z)
     (λ (z : (u ≡ u) × (t.prepared (place_in q class u) ≡ Some x.own.number)). none-some (place_in q class u) (sym unprepared ∙ h.prepared q class u l.own_is inside z.1))
     (l.rest u (let o : u ≤ u = omega arith in o) inside))))
     (h.supply class few (lt_of_not-le some)))
