@@ -14,7 +14,7 @@ use Rattle.heap_rule.specs.declared.view.Copying.{Copying}
 use Rattle.heap_rule.specs.declared.view.DomainView.{DomainView}
 use Rattle.heap_rule.specs.declared.view.Listing.{Listing}
 use Rattle.heap_rule.specs.declared.view.Share.{Share}
-use Rattle.heap_rule.specs.declared.view.Spot.{Spot}
+use Rattle.heap_rule.specs.declared.view.Search.{Search}
 use Rattle.heap_rule.specs.declared.view.Swept.{Swept}
 use Rattle.heap_rule.specs.Sweeping.{SweepsIn}
 use Rattle.heap_words.specs.Remembered.Bounded.{Bounded}
@@ -34,7 +34,7 @@ use Rattle.heap_rule.proofs.FullnessLemmas.{full_back}
 use Rattle.heap_rule.proofs.Keeps.{Words, copies_settled, covered_words, knows_front, lists_same, mine, my_good, no_copied, no_debt, no_owing, nothing_known, opened_words, phases_words, pools_words, quiet_in, remakes, resting_as, resting_lists, room_unused}
 
 -- the domain with other places looked at, with another list of ephemerons, further on in sweeping, and with other knowledge of the phase
-abbrev pub reaped : DomainView → List Spot → Bounded ℕ → Swept → Share → DomainView
+abbrev pub reaped : DomainView → List Search → Bounded ℕ → Swept → Share → DomainView
 reaped x looked ephemerons swept share = record x { own = record x.own { looked = looked; ephemerons = ephemerons; swept = swept }; seen = record x.seen { share = share } }
 
 module _ (k : Config) (s : Words) (r : Rule k s) (id : ℕ) (hist : List Entry) (x : DomainView) (at : get_elem? s.views id ≡ some (one k hist x)) where
@@ -48,7 +48,7 @@ module _ (k : Config) (s : Words) (r : Rule k s) (id : ℕ) (hist : List Entry) 
   reaped_to live' garbage' c' = record r.account { live = live'; tenancy = record t { garbage = garbage' }; cycling = c' }
 
   -- What such a step owes
-  pub record Reaps (looked : List Spot) (ephemerons : Bounded ℕ) (swept : Swept) (share' : Share) (live' : Live) (garbage' : ℕ → Bool) (c' : Cycling) (words' : List ℕ) : Type 0 where
+  pub record Reaps (looked : List Search) (ephemerons : Bounded ℕ) (swept : Swept) (share' : Share) (live' : Live) (garbage' : ℕ → Bool) (c' : Cycling) (words' : List ℕ) : Type 0 where
     pub wide : length words' ≡ length s.words
     pub control : (i : ℕ) → i ≤ before_heap k → i ≢ 5 → i ≢ 9 → i ≢ 10 → get_or words' i 0 ≡ get_or s.words i 0
     pub calm : Promoting r.account.pause → ⊥
@@ -70,7 +70,7 @@ module _ (k : Config) (s : Words) (r : Rule k s) (id : ℕ) (hist : List Entry) 
     pub sweeps : SweepsIn (record t { garbage = garbage' }) c' (reaped x looked ephemerons swept share')
     pub others_sweep : (z : DomainView) → z.own.number < k.domains → z.own.number ≢ x.own.number → Good k r.account s.words z → SweepsIn (record t { garbage = garbage' }) c' z
 
-  module _ (looked : List Spot) (ephemerons : Bounded ℕ) (swept : Swept) (share' : Share) (live' : Live) (garbage' : ℕ → Bool) (c' : Cycling) (words' : List ℕ) (o : Reaps looked ephemerons swept share' live' garbage' c' words') where
+  module _ (looked : List Search) (ephemerons : Bounded ℕ) (swept : Swept) (share' : Share) (live' : Live) (garbage' : ℕ → Bool) (c' : Cycling) (words' : List ℕ) (o : Reaps looked ephemerons swept share' live' garbage' c' words') where
     abbrev t' : Tenancy
     t' = record t { garbage = garbage' }
 
