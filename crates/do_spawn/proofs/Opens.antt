@@ -11,6 +11,8 @@ use Rattle.model_core.specs.declared.reply.Reply.{Reply}
 use Rattle.model_core.specs.Fronts.{NoneOf, is_full_major}
 use Rattle.model_core.specs.History.{IsPrefix}
 use Rattle.heap_rule.specs.declared.view.Own.{Own}
+use Rattle.model_core.specs.Domains.{IsWithinLimits}
+use Rattle.heap_rule.specs.Limits.{sizes_in}
 use Rattle.heap_rule.specs.Opening.{opening_token, opening_tokens}
 use Rattle.heap_rule.specs.Running.{ChangesRegisters, Did}
 use Rattle.heap_rule.specs.Token.{SharedHeap, Token}
@@ -55,8 +57,8 @@ keeps_remembered x y z k is = record {
 }
 
 -- room for what it remembers
-pub room_there : (h : SharedHeap) (t u : Token) → t ≡ opening_token h.table h.config 0 → GrowsBy t u → 2 ≤ u.view.own.remembered.room
-room_there h t u starts grows = (let n : ℕ = u.view.own.remembered.room in let is : n ≡ 4096 = ap (λ (o : Own). o.remembered.room) grows.own ∙ ap (λ (w : Token). w.view.own.remembered.room) starts in let e : 2 ≤ n = omega arith in e)
+pub room_there : (h : SharedHeap) (t u : Token) → IsWithinLimits (sizes_in h.config) → t ≡ opening_token h.table h.config 0 → GrowsBy t u → 2 ≤ u.view.own.remembered.room
+room_there h t u limits starts grows = (let n : ℕ = u.view.own.remembered.room in let m : ℕ = h.config.minor_words in let many : 4096 ≤ m = limits.some_minor in let is : n ≡ m = ap (λ (o : Own). o.remembered.room) grows.own ∙ ap (λ (w : Token). w.view.own.remembered.room) starts in let e : 2 ≤ n = omega arith in e)
 
 -- the first entries
 module _ (h : SharedHeap) (t u v : Token) (r s : Reply) (starts : t ≡ opening_token h.table h.config 0) (some : 0 < h.config.domains)

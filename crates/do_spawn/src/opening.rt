@@ -24,6 +24,7 @@ fn make_hidden(heap: &Heap, first: &mut Domain)
     requires some { 0 < heap.now.config.domains }
     ensures made { MadeHidden heap.now first.new }
 {
+    let _limits = heap.config();
     let Ok(_label) = alloc_major(heap, first, HIDDEN, 0, FIELDS) else {
         unreachable!()
     };

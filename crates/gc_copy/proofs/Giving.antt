@@ -38,8 +38,8 @@ gives_next k class x y z looked few wide g e =
       no_place a h = cc
 
 -- wherever the search goes on from
-pub gives_freed : (k : Config) (class pool slot new : ℕ) (x y z : DomainView) → class < class_count → length y.own.prepared ≡ class_count → Gives k class x y → FreedTold pool class slot y new z → Gives k (class + 1) x z
-gives_freed k class pool slot new x y z few wide g told = gives_next k class x y z (set y.own.looked class (freed_at pool slot (search_at y.own.looked class))) few wide g told
+pub gives_freed : (k : Config) (class pool slot : ℕ) (x y z : DomainView) → class < class_count → length y.own.prepared ≡ class_count → Gives k class x y → FreedTold pool class slot y 0 z → Gives k (class + 1) x z
+gives_freed k class pool slot x y z few wide g told = gives_next k class x y z (set y.own.looked class (freed_at pool slot (search_at y.own.looked class))) few wide g told
 
 -- none was prepared
 pub gives_none : (k : Config) (class : ℕ) (x y : DomainView) → Gives k class x y → prepared_at y.own.prepared class ≡ None → Gives k (class + 1) x y

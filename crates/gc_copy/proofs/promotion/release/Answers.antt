@@ -31,7 +31,7 @@ returns-in_default-clause-gives c = gives_none c.args.heap.now.config c.args.cla
 
 pub returns-clause-gives : goal.returns-clause-gives
 returns-clause-gives c = let p = c.requires.gives.placed c.args.class c.in-Some.at c.requires.class (sym c.prepared.ensures.place ∙ c.in-Some.is) in
-    gives_freed c.args.heap.now.config c.args.class c.spot_in-spot.result.pool c.spot_in-spot.result.slot _ c.args.dom.now.view c.args.dom.now.view c.free_store.new.dom.view c.requires.class c.prepared.ensures.wide c.requires.gives c.free_store.ensures.told
+    gives_freed c.args.heap.now.config c.args.class c.spot_in-spot.result.pool c.spot_in-spot.result.slot c.args.dom.now.view c.args.dom.now.view c.free_store.new.dom.view c.requires.class c.prepared.ensures.wide c.requires.gives c.free_store.ensures.told
 
 pub spot_in-spot-requires-clause-place : goal.spot_in-spot-requires-clause-place
 spot_in-spot-requires-clause-place c =
