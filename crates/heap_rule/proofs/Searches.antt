@@ -37,10 +37,10 @@ freed_cases pool slot s = dite (dec_le s.pool pool)
     (λ le. dite (ℕ_discrete pool s.pool)
     (λ same. dite (dec_le s.slot slot)
     (λ past. Stays (λ b. ⊎_elim (λ (h : pool < s.pool). let l : s.pool ≤ pool = le in omega arith) (λ (h : (pool ≡ s.pool) × (slot < s.slot)). let l : s.slot ≤ slot = past in let f = h.1 in omega arith) b)
-        (picked pool slot s false true false (le-ltb pool s.pool le) (eq-eqb pool s.pool same) (le-ltb slot s.slot past)))
+    (picked pool slot s false true false (le-ltb pool s.pool le) (eq-eqb pool s.pool same) (le-ltb slot s.slot past)))
     (λ here. Begins (inr (same, lt_of_not-le here)) (picked pool slot s false true true (le-ltb pool s.pool le) (eq-eqb pool s.pool same) (lt-ltb slot s.slot (lt_of_not-le here)))))
     (λ other. Stays (λ b. ⊎_elim (λ (h : pool < s.pool). let l : s.pool ≤ pool = le in omega arith) (λ (h : (pool ≡ s.pool) × (slot < s.slot)). other h.0) b)
-        (picked pool slot s false false (nat_lt slot s.slot) (le-ltb pool s.pool le) (ne_eqb pool s.pool other) refl)))
+    (picked pool slot s false false (nat_lt slot s.slot) (le-ltb pool s.pool le) (ne_eqb pool s.pool other) refl)))
     (λ gt. Begins (inl (lt_of_not-le gt)) (picked pool slot s true (pool == s.pool) (nat_lt slot s.slot) (lt-ltb pool s.pool (lt_of_not-le gt)) refl refl))
 
 -- what comes before a place that comes before another does so too

@@ -15,8 +15,7 @@ ghost use Rattle.heap_rule.specs.Views.{one, opening_view, pending_room};
 use crate::change::{Item, Part};
 use crate::config::Config;
 use crate::view::{
-    Copied, Finalisers, Own, Registered, RegisteredLast, Search, Spot, Swept, View,
-    Waiting,
+    Copied, Finalisers, Own, Registered, RegisteredLast, Search, Spot, Swept, View, Waiting,
 };
 use atomic_table::Seat;
 use heap_words::Value;

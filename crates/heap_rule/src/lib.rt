@@ -26,6 +26,6 @@ pub use rule::{Told, ToldAll};
 pub use together::raw_load_all;
 pub use view::{
     Copied, Copying, DomainView, Finalisers, Form, FoundHead, Held, Hunt, Listing, Met, Owing, Own,
-    OwnPool, Reaping, Registered, RegisteredLast, Scan, Search, Seen, Share, Spot,
-    Swept, View, Waiting,
+    OwnPool, Reaping, Registered, RegisteredLast, Scan, Search, Seen, Share, Spot, Swept, View,
+    Waiting,
 };

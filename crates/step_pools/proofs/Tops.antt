@@ -71,9 +71,9 @@ passed_behind pools top pool q i s here low passed = dite (ℕ_discrete q pool)
     (λ behind. inr (is, (let l : pool < q = lt_of_not-le behind in let e : s.pool ≡ pool = here in let g : s.pool < q = omega arith in g))))
     (λ (is : s.only ≡ false). ⊎_elim
     (λ (h : IsBefore q i (record { pool = pool_after pools top pool; slot = 0 })). inl (inl (⊎_elim
-        (λ (l : q < pool_after pools top pool). let g : q < pool = before_after pools top pool q l low other in let e : s.pool ≡ pool = here in let m : q < s.pool = omega arith in m)
-        (λ (l : (q ≡ pool_after pools top pool) × (i < 0)). let z : i < 0 = l.1 in omega arith)
-        h)))
+    (λ (l : q < pool_after pools top pool). let g : q < pool = before_after pools top pool q l low other in let e : s.pool ≡ pool = here in let m : q < s.pool = omega arith in m)
+    (λ (l : (q ≡ pool_after pools top pool) × (i < 0)). let z : i < 0 = l.1 in omega arith)
+    h)))
     (λ (h : (false ≡ true) × (pool_after pools top pool < q)). let e : false ≡ true = h.0 in cc)
     (subst (IsPassed q i) (behind_others pools top pool s is) passed))
     (bool_cases s.only)))

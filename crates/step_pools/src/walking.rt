@@ -83,7 +83,11 @@ fn pool_behind(pools: u32, top: u32, pool: u32, looked: Search) -> Search
     requires inside { pool < 2048 }
     ensures { result ≡ pool_behind pools top pool looked }
 {
-    let next = if looked.only { pools } else { pool_after(pools, top, pool) };
+    let next = if looked.only {
+        pools
+    } else {
+        pool_after(pools, top, pool)
+    };
     Search {
         pool: next,
         slot: 0,
@@ -110,8 +114,12 @@ impl Writing for PassingPool {
     fn write(&self, found: u64, _changes: &[Change], own: &mut Own) {
         if found != owner_word(own.number, self.class) {
             let looked = own.looked[self.class as usize];
-            own.looked[self.class as usize] =
-                pool_behind(self.pools, own.swept.top, self.pool, looked);
+            own.looked[self.class as usize] = pool_behind(
+                self.pools,
+                own.swept.top,
+                self.pool,
+                looked,
+            );
         }
     }
 }

@@ -4,9 +4,7 @@ ghost use Rattle.heap_rule.specs.Standing.{IsInHeap};
 ghost use Rattle.heap_rule.specs.Token.{IsIn};
 ghost use Rattle.step_promote.specs.Claims.{ClaimMay, ClaimTold, FreeMay, FreedTold, HeadStoreMay, HeadStoreTold, LabelStoreMay, LabelStoreTold, PrepareMay, PrepareTold};
 
-use heap_rule::{
-    Change, Copied, Domain, Heap, Leaving, Own, Writing, raw_exchange, raw_store,
-};
+use heap_rule::{Change, Copied, Domain, Heap, Leaving, Own, Writing, raw_exchange, raw_store};
 use std::marker::Brand;
 
 // A place is prepared for a class.
