@@ -9,7 +9,7 @@ import report
 import shrink
 from judge import GAVE_UP, LEGAL, NONE_FOUND, TOP, Judge, NoJudge
 from player import NoPlayer, Player
-from scripts import parts_of, random_script
+from scripts import parts_of, random_script, young_script
 
 LONGEST = 15
 
@@ -38,6 +38,9 @@ class Trial:
     def script(self, seed):
         """A script, and for how many domains it is."""
         can, place = self.player.can, seed - 1
+        if self.words.young:
+            domains = 2 + place % max(1, self.domains - 1)
+            return young_script(seed, can.versions[0], domains, self.words.lines)
         domains = 1 + place % self.domains
         version = can.versions[place // self.domains % len(can.versions)]
         if version == 3 and domains == 1:
@@ -152,7 +155,7 @@ def words_given(usage):
         ("states", int, 200000), ("seconds", float, 20.0),
     ):  # fmt: skip
         reader.add_argument(f"--{name}", type=of, default=without)
-    for name in ("self-test", "all", "unproved", "help"):
+    for name in ("self-test", "young", "all", "unproved", "help"):
         reader.add_argument(f"--{name}", action="store_true")
     reader.add_argument("player", nargs=argparse.REMAINDER)
     words = reader.parse_args()

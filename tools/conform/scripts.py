@@ -72,6 +72,18 @@ def random_script(seed, version, domains, words, length):
     return text_of(version, sections)
 
 
+def young_script(seed, version, domains, length):
+    """The text of a script of two domains or more: the last one registers `finalise_last` on young blocks that the first one keeps, and both make a
+    minor collection. How long each waits before it does so is random."""
+    dice = random.Random(f"young {seed}")
+    blocks, wait = dice.randrange(20, 120), lambda: ["int 5 1"] * dice.randrange(length)
+    makes = [line for field in range(blocks) for line in ("alloc 1 0 1", f"store 3 {field} 1")]
+    registers = [line for field in range(blocks) for line in (f"load 1 4 {field}", f"finalise_last 1 {field}")]
+    first = ["alloc 3 0 126", "store 0 1 3", *makes, *wait(), "minor", *["alloc 2 0 126"] * dice.randrange(50, 200)]
+    last = [*wait(), "load 4 0 1", *registers, "minor", "poll", "poll"]
+    return text_of(version, [first, *[["minor"]] * (domains - 2), last])
+
+
 def text_of(version, sections):
     lines = [f"heap {version}"]
     for number, commands in enumerate(sections):
