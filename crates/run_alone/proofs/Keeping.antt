@@ -217,7 +217,7 @@ class_small words = grind (arith, nat_tests)
 
 -- a command needs no pause where the minor area is empty, the domain remembers nothing, and a pause has come for it, unless it is a `full_major`
 module _ (k : Config) (own : Own) (limits : IsWithinLimits (sizes_in k)) (used : own.used ≡ 0) (items : own.remembered.items ≡ []) (whole : own.remembered.room + length own.remembered.items ≡ k.minor_words) where
-  room : 1 ≤ own.remembered.room
+  room : 4096 ≤ own.remembered.room
   room = let none : length own.remembered.items ≡ 0 = ap length items in let many = limits.some_minor in omega (arith, whole, none, many)
 
   fits : (fields : ℕ) → k.minor_words < own.used + class_words (fields + 2) → ⊥
